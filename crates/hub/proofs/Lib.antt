@@ -1,0 +1,3 @@
+pub mod Hubs
+pub mod Routes
+pub mod TranslationLaws

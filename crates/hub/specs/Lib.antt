@@ -1,0 +1,4 @@
+pub mod Hubs
+pub mod Routes
+pub mod Translation
+pub mod Collecting

@@ -1,0 +1,38 @@
+-- The route of a port (document 01, "Frames and packets").
+-- Assumes nothing.
+use mathlib.Core.Bool.{cond}
+use mathlib.Core.List.{List}
+use Prim.Native.Nat.{ℕ, _+_, _/_}
+use lib.Dec.{ltb}
+use Rattle.laws.specs.Bits.{digit, bit}
+use Rattle.laws.specs.Reply.{Reply, refused, given}
+use Rattle.registers.specs.declared.RegisterFile.{RegisterFile}
+use Rattle.registers.specs.RegisterMap.{FWD-CTL1, RAW10-ID, RAW12-ID}
+use Rattle.registers.specs.RegisterFiles.{sharedAt, pageAt}
+use Rattle.hub.specs.declared.forwarding.Route.{Route}
+use Rattle.hub.specs.declared.forwarding.Route.the-variants.{NoSuchPort, Off, Output}
+
+-- "A port's route is off, or this output with both formats' channels."
+pub data PortRoute : Type 0 where
+  off : PortRoute
+  output : (csi raw10 raw12 : ℕ) → PortRoute
+
+-- "its top two bits (the channel)" of a data identifier
+abbrev pub virtualChannel : ℕ → ℕ
+virtualChannel identifier = identifier / 64
+
+-- "Forwarding of port p is off if bit 4 + p of 0x20 is set [...] Otherwise it leaves on CSI output 0 or 1, as bit p says." (FWD_PORTp_DIS, RXp_MAP)
+unfoldable pub forwardedBy : ℕ → List ℕ → ℕ → PortRoute
+forwardedBy forwarding pages port =
+    cond (bit (4 + port) forwarding) off
+    (output (digit port forwarding) (virtualChannel (pageAt pages port RAW10-ID)) (virtualChannel (pageAt pages port RAW12-ID)))
+
+-- refusal 1: "port above 3"
+unfoldable pub routeOf : RegisterFile → ℕ → Reply PortRoute
+routeOf file port = cond (ltb 3 port) (refused 1) (given (forwardedBy (sharedAt file FWD-CTL1) (file .pages) port))
+
+-- the paper's number and values for each case of the answer
+abbrev pub routeReply : Route → Reply PortRoute
+routeReply NoSuchPort = refused 1
+routeReply Off = given off
+routeReply (Output csi raw10 raw12) = given (output csi raw10 raw12)

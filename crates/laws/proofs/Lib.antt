@@ -1,0 +1,5 @@
+pub mod Bits
+pub mod Xor
+pub mod Masked
+pub mod Tabulate
+pub mod Written

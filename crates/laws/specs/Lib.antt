@@ -1,0 +1,5 @@
+pub mod Bits
+pub mod Masked
+pub mod Reply
+pub mod Tabulate
+pub mod Written

@@ -1,0 +1,2 @@
+pub mod RegisterMap
+pub mod RegisterFiles

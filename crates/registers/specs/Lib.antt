@@ -1,0 +1,3 @@
+pub mod RegisterMap
+pub mod RegisterFiles
+pub mod SclTimes

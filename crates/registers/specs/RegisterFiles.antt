@@ -1,0 +1,76 @@
+-- The register file: reset, a write, a burst and a read (document 01, "The register file").
+-- Assumes nothing.
+use mathlib.Core.Bool.{Bool, cond}
+use mathlib.Core.List.{List, [], _∷_}
+use Prim.Native.Nat.{ℕ, zero, suc, _+_, _*_, _/_, _%_}
+use lib.ListN.{getD, set}
+use Rattle.laws.specs.Bits.{bit}
+use Rattle.laws.specs.Masked.{masked}
+use Rattle.laws.specs.Tabulate.{tabulate}
+use Rattle.registers.specs.declared.RegisterFile.{RegisterFile}
+use Rattle.registers.specs.RegisterMap.{resetOf, maskOf, perPort, FPD3-PORT-SEL}
+
+-- the shared register at an offset
+abbrev pub sharedAt : RegisterFile → ℕ → ℕ
+sharedAt file offset = getD (file .shared) offset 0
+
+-- the register of a port at an offset: "four pages of 256 registers, one page a port"
+abbrev pub pageAt : List ℕ → ℕ → ℕ → ℕ
+pageAt pages port offset = getD pages (256 * port + offset) 0
+
+-- the reset value of the register at an index of the pages
+unfoldable pub pageResetAt : ℕ → ℕ
+pageResetAt index = resetOf (index / 256) (index % 256)
+
+-- every register at its reset value
+unfoldable pub resetFile : RegisterFile
+resetFile = record { shared = tabulate (resetOf 0) 256; pages = tabulate pageResetAt 1024 }
+
+-- "In 0x4C, bits 3 to 0 tick the ports to be written, bits 5 and 4 name the port to be read." (RX_WRITE_PORT_3 to 0, RX_READ_PORT)
+abbrev pub selection : RegisterFile → ℕ
+selection file = sharedAt file FPD3-PORT-SEL
+
+abbrev pub writeEnabled : RegisterFile → ℕ → Bool
+writeEnabled file port = bit port (selection file)
+
+abbrev pub readPort : RegisterFile → ℕ
+readPort file = selection file / 16 % 4
+
+-- "Writing a shared offset takes the masked bits from the value and keeps the rest."
+unfoldable pub writeShared : RegisterFile → ℕ → ℕ → RegisterFile
+writeShared file offset value =
+    record {
+      shared = set (file .shared) offset (masked (maskOf offset) (sharedAt file offset) value);
+      pages = file .pages;
+    }
+
+-- the same for the register of one port
+unfoldable pub writePage : RegisterFile → ℕ → ℕ → ℕ → RegisterFile
+writePage file port offset value =
+    record {
+      shared = file .shared;
+      pages = set (file .pages) (256 * port + offset) (masked (maskOf offset) (pageAt (file .pages) port offset) value);
+    }
+
+-- "Writing a per-port offset does so in each ticked port; with none ticked nothing changes." The ports below n, rising.
+unfoldable pub writePorts : ℕ → RegisterFile → ℕ → ℕ → RegisterFile
+writePorts zero file offset value = file
+writePorts (suc port) file offset value =
+    let before = writePorts port file offset value in
+    cond (writeEnabled file port) (writePage before port offset value) before
+
+unfoldable pub writeRegister : RegisterFile → ℕ → ℕ → RegisterFile
+writeRegister file offset value = cond (perPort offset) (writePorts 4 file offset value) (writeShared file offset value)
+
+-- "after 0xFF comes 0x00"
+abbrev pub nextOffset : ℕ → ℕ
+nextOffset offset = (offset + 1) % 256
+
+-- "A burst writes successive offsets, each byte under the selection then in force [...] An empty burst changes nothing."
+unfoldable pub writeBurst : RegisterFile → ℕ → List ℕ → RegisterFile
+writeBurst file offset [] = file
+writeBurst file offset (value ∷ values) = writeBurst (writeRegister file offset value) (nextOffset offset) values
+
+-- "Reading a per-port offset shows the read port's register. Reading changes nothing."
+unfoldable pub readRegister : RegisterFile → ℕ → ℕ
+readRegister file offset = cond (perPort offset) (pageAt (file .pages) (readPort file) offset) (sharedAt file offset)

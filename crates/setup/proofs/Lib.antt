@@ -1,0 +1,6 @@
+pub mod Selection
+pub mod PageWrites
+pub mod Runs
+pub mod Tickers
+pub mod Order
+pub mod Examples

@@ -1,0 +1,3 @@
+pub mod SetupBlocks
+pub mod Demand3
+pub mod Examples
