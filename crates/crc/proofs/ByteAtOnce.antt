@@ -1,0 +1,93 @@
+-- A byte at once: a data bit may as well be added to the register before it moves, and the moves are linear.
+-- Assumes nothing.
+use mathlib.Core.Path.{_≡_, refl, sym, ap, ap₂, _∙_}
+use mathlib.Core.List.{List, [], _∷_, _++_}
+use Prim.Native.Nat.{ℕ, zero, suc, _+_, _*_, _/_, _%_, _^_, _≤_, _<_}
+use native.Mathlib.Nat.{mod-lt, div-eq-of-lt, mul-one, add-zero}
+use native.Mathlib.Numerals.{add-one}
+use native.Mathlib.Omega.{arith}
+use lib.Arith.{lt-one}
+use lib.Bits.{bitXor, xor-shr, xor-mod, xor-comm, xor-zero-r, xor-shifted, shifted-half, shifted-even}
+use lib.ListN.{length, take, getD}
+use lib.Pow.{pow-pos, split}
+use lib.Seq.{take-suc}
+use Rattle.laws.proofs.Bits.{digit-case}
+use Rattle.laws.proofs.Xor.{xor-assoc, xor-swap, parity-add}
+use Rattle.crc.specs.Checksum.{polynomial, crcBit, crcBits, crcFrom}
+use Rattle.crc.specs.Shifts.{shifts}
+
+-- one move of the register
+abbrev shift : ℕ → ℕ
+shift register = crcBit register 0
+
+-- a data bit, with the rest of its byte, is added to the register first
+fed : (c b : ℕ) → shift (bitXor c b) ≡ bitXor (crcBit c (b % 2)) (b / 2)
+unfolding crcBit
+fed c b =
+    let p = polynomial * ((c + b % 2) % 2) in
+    let z : (bitXor c b + 0) % 2 ≡ bitXor c b % 2 = omega arith in
+    let e : (c + b) % 2 ≡ (c + b % 2) % 2 = omega arith in
+    ap₂ bitXor (xor-shr c b 1) (ap (λ (t : ℕ). polynomial * t) (z ∙ xor-mod c b 1 ∙ sym (parity-add c b) ∙ e))
+    ∙ xor-assoc (c / 2) (b / 2) p ∙ ap (bitXor (c / 2)) (xor-comm (b / 2) p) ∙ sym (xor-assoc (c / 2) p (b / 2))
+
+pub all-fed : (n c b : ℕ) → b < 2 ^ n → crcBits n c b ≡ shifts n (bitXor c b)
+unfolding crcBits shifts
+all-fed zero c b h = sym (ap (bitXor c) (lt-one h) ∙ xor-zero-r c)
+all-fed (suc n) c b h = all-fed n (crcBit c (b % 2)) (b / 2) (omega arith) ∙ ap (shifts n) (sym (fed c b))
+
+-- moving is linear
+shift-linear : (a b : ℕ) → shift (bitXor a b) ≡ bitXor (shift a) (shift b)
+unfolding crcBit
+shift-linear a b =
+    let z : (bitXor a b + 0) % 2 ≡ bitXor a b % 2 = omega arith in
+    let za : (a + 0) % 2 ≡ a % 2 = omega arith in
+    let zb : (b + 0) % 2 ≡ b % 2 = omega arith in
+    ap₂ bitXor (xor-shr a b 1) (ap (λ (t : ℕ). polynomial * t) (z ∙ xor-mod a b 1) ∙ added)
+    ∙ xor-swap (a / 2) (b / 2) (polynomial * (a % 2)) (polynomial * (b % 2))
+    ∙ ap₂ (λ (s t : ℕ). bitXor (bitXor (a / 2) (polynomial * s)) (bitXor (b / 2) (polynomial * t))) (sym za) (sym zb)
+  where
+    added : polynomial * bitXor (a % 2) (b % 2) ≡ bitXor (polynomial * (a % 2)) (polynomial * (b % 2))
+    added =
+        digit-case (λ x. polynomial * bitXor x (b % 2) ≡ bitXor (polynomial * x) (polynomial * (b % 2))) refl
+        (digit-case (λ y. polynomial * bitXor 1 y ≡ bitXor (polynomial * 1) (polynomial * y)) refl refl b) a
+
+pub shifts-linear : (n a b : ℕ) → shifts n (bitXor a b) ≡ bitXor (shifts n a) (shifts n b)
+unfolding shifts
+shifts-linear zero a b = refl
+shifts-linear (suc n) a b = ap (shifts n) (shift-linear a b) ∙ shifts-linear n (shift a) (shift b)
+
+-- n moves take a multiple of 2 ^ n down
+taken-down : (n a : ℕ) → shifts n (a * 2 ^ n) ≡ a
+unfolding shifts crcBit
+taken-down zero a = mul-one a
+taken-down (suc n) a =
+    let z : (a * 2 ^ suc n + 0) % 2 ≡ a * 2 ^ suc n % 2 = omega arith in
+    ap (shifts n) (ap₂ (λ (x y : ℕ). bitXor x (polynomial * y)) (shifted-half a n) (z ∙ shifted-even a n) ∙ xor-zero-r (a * 2 ^ n)) ∙ taken-down n a
+
+-- n moves at once: those of the n low digits, and the rest taken down
+pub at-once : (n c : ℕ) → shifts n c ≡ bitXor (shifts n (c % 2 ^ n)) (c / 2 ^ n)
+at-once n c =
+    ap (shifts n) (sym (xor-shifted (c / 2 ^ n) n (c % 2 ^ n) (mod-lt c (pow-pos n)) ∙ split c n))
+    ∙ shifts-linear n (c / 2 ^ n * 2 ^ n) (c % 2 ^ n)
+    ∙ ap (λ (t : ℕ). bitXor t (shifts n (c % 2 ^ n))) (taken-down n (c / 2 ^ n))
+    ∙ xor-comm (c / 2 ^ n) (shifts n (c % 2 ^ n))
+
+-- a byte at once
+pub byte-at-once : (c b : ℕ) → b < 256 → crcBits 8 c b ≡ bitXor (shifts 8 (bitXor c b % 256)) (c / 256)
+byte-at-once c b h =
+    all-fed 8 c b h ∙ at-once 8 (bitXor c b)
+    ∙ ap (bitXor (shifts 8 (bitXor c b % 256))) (xor-shr c b 8 ∙ ap (bitXor (c / 256)) (div-eq-of-lt h) ∙ xor-zero-r (c / 256))
+
+-- bytes behind bytes
+pub crc-append : (c : ℕ) (a b : List ℕ) → crcFrom c (a ++ b) ≡ crcFrom (crcFrom c a) b
+unfolding crcFrom
+crc-append c [] b = refl
+crc-append c (x ∷ a) b = crc-append (crcBits 8 c x) a b
+
+-- one byte more of a list's first i
+pub crc-next : (c : ℕ) (s : List ℕ) (i : ℕ) {sum : ℕ} → i < length s → sum ≡ crcFrom c (take i s)
+    → crcBits 8 sum (getD s i 0) ≡ crcFrom c (take (i + 1) s)
+unfolding crcFrom
+crc-next c s i h e =
+    ap (λ (t : ℕ). crcBits 8 t (getD s i 0)) e
+    ∙ sym (ap (λ (n : ℕ). crcFrom c (take n s)) (add-one i) ∙ ap (crcFrom c) (take-suc s i 0 h) ∙ crc-append c (take i s) (getD s i 0 ∷ []))

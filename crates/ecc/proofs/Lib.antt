@@ -1,0 +1,4 @@
+pub mod Masks
+pub mod Linear
+pub mod ColumnLaws
+pub mod Near

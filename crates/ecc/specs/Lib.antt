@@ -1,0 +1,3 @@
+pub mod CheckByte
+pub mod HeaderRepair
+pub mod Syndrome

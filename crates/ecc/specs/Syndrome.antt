@@ -1,0 +1,12 @@
+-- How the source finds a wrong bit: by the difference between the check byte that a header has and the one that it should have.
+-- Assumes nothing.
+use Prim.Native.Nat.{ℕ, _/_, _%_, _^_}
+use lib.Bits.{bitXor}
+use Rattle.ecc.specs.CheckByte.{checkByte}
+
+unfoldable pub syndromeOf : ℕ → ℕ
+syndromeOf header = bitXor (checkByte (header % 2 ^ 24)) (header / 2 ^ 24)
+
+-- the difference that bit i alone makes
+unfoldable pub columnOf : ℕ → ℕ
+columnOf i = syndromeOf (2 ^ i)
