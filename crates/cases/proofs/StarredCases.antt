@@ -2,8 +2,8 @@
 -- Assumes nothing.
 use mathlib.Core.Path.{refl}
 use Rattle.laws.specs.Bits.{bit}
-use Rattle.laws.specs.Masked.{masked}
-use Rattle.laws.specs.Tabulate.{tabulate, tabulateFrom}
+use Rattle.laws.specs.MaskedWrites.{masked}
+use Rattle.laws.specs.Tables.{tabulate, tabulateFrom}
 use Rattle.registers.specs.RegisterMap.{rows, rowIn, resetOf, maskOf, perPort}
 use Rattle.registers.specs.RegisterFiles.{pageResetAt, resetFile, writeShared, writePage, writePorts, writeRegister, writeBurst, readRegister}
 use Rattle.hub.specs.Hubs.{hubAt, hubBurst, hubRead}

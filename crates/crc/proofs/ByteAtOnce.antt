@@ -2,8 +2,8 @@
 -- Assumes nothing.
 use mathlib.Core.Path.{_≡_, refl, sym, ap, ap₂, _∙_}
 use mathlib.Core.List.{List, [], _∷_, _++_}
-use Prim.Native.Nat.{ℕ, zero, suc, _+_, _*_, _/_, _%_, _^_, _≤_, _<_}
-use native.Mathlib.Nat.{mod-lt, div-eq-of-lt, mul-one, add-zero}
+use Prim.Native.Nat.{ℕ, zero, suc, _+_, _*_, _/_, _%_, _^_, _<_}
+use native.Mathlib.Nat.{mod-lt, div-eq-of-lt, mul-one}
 use native.Mathlib.Numerals.{add-one}
 use native.Mathlib.Omega.{arith}
 use lib.Arith.{lt-one}
@@ -12,9 +12,9 @@ use lib.ListN.{length, take, getD}
 use lib.Pow.{pow-pos, split}
 use lib.Seq.{take-suc}
 use Rattle.laws.proofs.Bits.{digit-case}
-use Rattle.laws.proofs.Xor.{xor-assoc, xor-swap, parity-add}
+use Rattle.laws.proofs.Bitwise.{xor-assoc, xor-swap, parity-add}
 use Rattle.crc.specs.Checksum.{polynomial, crcBit, crcBits, crcFrom}
-use Rattle.crc.specs.Shifts.{shifts}
+use Rattle.crc.specs.ByteShifts.{shifts}
 
 -- one move of the register
 abbrev shift : ℕ → ℕ

@@ -22,6 +22,6 @@ unfoldable pub crcFrom : ℕ → List ℕ → ℕ
 crcFrom register [] = register
 crcFrom register (byte ∷ bytes) = crcFrom (crcBits 8 register byte) bytes
 
--- the checksum of a payload: "start 0xFFFF"
+-- the checksum of a payload: "start 0xFFFF"; "A count of 0 has checksum 0xFFFF."
 unfoldable pub crcOf : List ℕ → ℕ
 crcOf payload = crcFrom 0xFFFF payload

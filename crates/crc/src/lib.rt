@@ -1,8 +1,8 @@
 // The checksum (CRC) of a CSI-2 payload, a byte a step by a table.
 ghost use mathlib.Core.Path.{_≡_};
-ghost use Rattle.laws.specs.Tabulate.{tabulate};
+ghost use Rattle.laws.specs.Tables.{tabulate};
 ghost use Rattle.crc.specs.Checksum.{crcFrom, crcOf};
-ghost use Rattle.crc.specs.Shifts.{shifts};
+ghost use Rattle.crc.specs.ByteShifts.{shifts};
 
 // What eight shifts make of each low byte of the register.
 const SHIFTED: [u16; 256] = [
@@ -297,7 +297,7 @@ const SHIFTED: [u16; 256] = [
 ];
 
 // The table, with its rule.
-fn shifted() -> [u16; 256]
+fn shift_table() -> [u16; 256]
     ensures { λ r. ⌜ r ≡ tabulate (shifts 8) 256 ⌝ }
 {
     SHIFTED
@@ -307,7 +307,7 @@ fn shifted() -> [u16; 256]
 pub fn feed(crc: u16, bytes: &[u8]) -> u16
     ensures { λ r. ⌜ r ≡ crcFrom crc (now (bytes .entry)) ⌝ }
 {
-    let table = shifted();
+    let table = shift_table();
     let mut sum = crc;
     let mut i = 0;
     while i < bytes.len() {

@@ -1,13 +1,13 @@
 -- The 32 columns: a check bit's is the bit itself, none is zero and no two are the same, each by one computed test.
 -- Assumes nothing.
-use mathlib.Core.Path.{_≡_, refl, sym, ap, _∙_}
+use mathlib.Core.Path.{_≡_, refl}
 use mathlib.Core.Bool.{Bool, true, false, _||_, not}
-use Prim.Native.Nat.{ℕ, _+_, _-_, _/_, _%_, _^_, _<_, _≤_}
+use Prim.Native.Nat.{ℕ, _+_, _-_, _^_, _<_}
 use native.Mathlib.Omega.{arith}
 use borrow.Author.Tests.{eq-eqb, eqb-true}
 use lib.Dec.{T, eqb, eqb→eq}
-use Rattle.laws.proofs.Tabulate.{allBelow, below-at}
-use Rattle.ecc.specs.CheckByte.{onesAmong, checkByte}
+use Rattle.laws.proofs.Tables.{allBelow, below-at}
+use Rattle.ecc.specs.CheckBytes.{onesAmong, checkByte}
 use Rattle.ecc.specs.Syndrome.{syndromeOf, columnOf}
 
 checkBit : ℕ → Bool

@@ -1,17 +1,16 @@
 -- The check byte and the syndrome are linear: that of an exclusive-or is the exclusive-or of those of its parts.
 -- Assumes nothing.
 use mathlib.Core.Path.{_≡_, refl, sym, ap, ap₂, _∙_}
-use mathlib.Core.Bool.{Bool}
 use mathlib.Core.List.{List, [], _∷_}
-use Prim.Native.Nat.{ℕ, zero, suc, _+_, _*_, _/_, _%_, _^_, _<_}
+use Prim.Native.Nat.{ℕ, zero, suc, _/_, _%_, _^_, _<_}
 use native.Mathlib.Omega.{arith}
 use lib.Bits.{bitXor, xor-lt, xor-mod, xor-shr, xor-comm}
 use lib.Dec.{eqb}
 use Rattle.laws.specs.Bits.{digit}
 use Rattle.laws.proofs.Bits.{same-digits}
-use Rattle.laws.proofs.Xor.{digit-xor, xor-swap, parity-add, eqb-xor}
-use Rattle.ecc.specs.CheckByte.{onesAmong, oddAmong, P0, P1, P2, P3, P4, P5, checkByte}
-use Rattle.ecc.specs.HeaderRepair.{isRight, turned}
+use Rattle.laws.proofs.Bitwise.{digit-xor, xor-swap, parity-add, eqb-xor}
+use Rattle.ecc.specs.CheckBytes.{onesAmong, oddAmong, P0, P1, P2, P3, P4, P5, checkByte}
+use Rattle.ecc.specs.HeaderCorrection.{isRight, flipped}
 use Rattle.ecc.specs.Syndrome.{syndromeOf, columnOf}
 
 odd-linear : (places : List ℕ) (a b : ℕ) → oddAmong places (bitXor a b) ≡ bitXor (oddAmong places a) (oddAmong places b)
@@ -64,15 +63,15 @@ unfolding syndromeOf
 syndrome-small header h =
     xor-lt 8 (checkByte (header % 2 ^ 24)) (header / 2 ^ 24) (let s = check-small (header % 2 ^ 24) in omega arith) (omega arith)
 
--- a header is right exactly where its syndrome is zero, and with bit i turned over exactly where it is that bit's column
+-- a header is right exactly where its syndrome is zero, and with bit i flipped exactly where it is that bit's column
 pub right-syndrome : (header : ℕ) → isRight header ≡ eqb (syndromeOf header) 0
 unfolding isRight syndromeOf
 right-syndrome header =
     eqb-xor (header / 2 ^ 24) (checkByte (header % 2 ^ 24)) ∙ ap (λ (t : ℕ). eqb t 0) (xor-comm (header / 2 ^ 24) (checkByte (header % 2 ^ 24)))
 
-pub right-turned : (header i : ℕ) → isRight (turned header i) ≡ eqb (columnOf i) (syndromeOf header)
+pub right-flipped : (header i : ℕ) → isRight (flipped header i) ≡ eqb (columnOf i) (syndromeOf header)
 unfolding columnOf
-right-turned header i =
-    right-syndrome (turned header i)
+right-flipped header i =
+    right-syndrome (flipped header i)
     ∙ ap (λ (t : ℕ). eqb t 0) (syndrome-linear header (2 ^ i) ∙ xor-comm (syndromeOf header) (syndromeOf (2 ^ i)))
     ∙ sym (eqb-xor (syndromeOf (2 ^ i)) (syndromeOf header))

@@ -11,7 +11,7 @@ use lib.Pow.{shr-shr}
 use lib.Bits.{bitAnd, and-shr, and-mod, and-zero-r}
 use lib.Count.{ones, ones-step}
 use Rattle.laws.proofs.Bits.{digit-case}
-use Rattle.ecc.specs.CheckByte.{onesAmong, oddAmong}
+use Rattle.ecc.specs.CheckBytes.{onesAmong, oddAmong}
 
 -- the place o is listed if the digit is a one
 abbrev listed : ℕ → ℕ → List ℕ → List ℕ

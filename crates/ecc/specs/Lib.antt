@@ -1,3 +1,3 @@
-pub mod CheckByte
-pub mod HeaderRepair
+pub mod CheckBytes
+pub mod HeaderCorrection
 pub mod Syndrome

@@ -1,9 +1,9 @@
-// The check byte (ECC) of a CSI-2 packet header, and the repair of one wrong bit.
+// The check byte (ECC) of a CSI-2 packet header, and the correction of one wrong bit.
 ghost use mathlib.Core.Path.{_≡_};
 ghost use Prim.Native.Nat.{_<_};
-ghost use Rattle.laws.specs.Tabulate.{tabulate};
-ghost use Rattle.ecc.specs.CheckByte.{checkByte};
-ghost use Rattle.ecc.specs.HeaderRepair.{repairReply, mendFrom, repairOf};
+ghost use Rattle.laws.specs.Tables.{tabulate};
+ghost use Rattle.ecc.specs.CheckBytes.{checkByte};
+ghost use Rattle.ecc.specs.HeaderCorrection.{correctionReply, correctFrom, correctionOf};
 ghost use Rattle.ecc.specs.Syndrome.{syndromeOf, columnOf};
 
 // The data bits of each check bit, as masks of the 24-bit word.
@@ -33,18 +33,18 @@ pub fn check_byte(word: u32) -> u8
 }
 
 // Which of a header's 32 bits was wrong: 0 is the lowest of the identifier, 31 the highest of the check byte.
-pub enum Mended {
+pub enum Corrected {
     Nothing,
-    Bit(u8),
+    HeaderBit(u8),
 }
 
 // What a header is read as, its four bytes as one number, the identifier lowest.
-pub enum Repair {
-    BeyondRepair,
-    Header { header: u32, mended: Mended },
+pub enum Correction {
+    Uncorrectable,
+    Header { header: u32, corrected: Corrected },
 }
 
-// The check byte's difference that each data bit makes when it is turned over, D0 to D23.
+// The check byte's difference that each data bit makes when it is flipped, D0 to D23.
 const COLUMNS: [u8; 24] = [
     0x07,
     0x0B,
@@ -73,7 +73,7 @@ const COLUMNS: [u8; 24] = [
 ];
 
 // The columns, with their rule.
-fn columns() -> [u8; 24]
+fn column_table() -> [u8; 24]
     ensures { λ r. ⌜ r ≡ tabulate columnOf 24 ⌝ }
 {
     COLUMNS
@@ -85,40 +85,40 @@ fn column(i: u8) -> u8
     ensures { λ r. ⌜ r ≡ columnOf i ⌝ }
 {
     if i < 24 {
-        let table = columns();
+        let table = column_table();
         return table[i as usize];
     }
     1 << (i - 24)
 }
 
 // Mends the one bit that makes the difference `syndrome`.
-fn mend(header: u32, syndrome: u8) -> Repair
+fn correct_bit(header: u32, syndrome: u8) -> Correction
     requires { ⌜ syndrome ≡ syndromeOf header ⌝ }
-    ensures { λ r. ⌜ repairReply r ≡ mendFrom header 0 32 ⌝ }
+    ensures { λ r. ⌜ correctionReply r ≡ correctFrom header 0 32 ⌝ }
 {
     let mut i: u8 = 0;
     while i < 32 {
         if column(i) == syndrome {
-            return Repair::Header {
+            return Correction::Header {
                 header: header ^ (1 << (i as u32)),
-                mended: Mended::Bit(i),
+                corrected: Corrected::HeaderBit(i),
             };
         }
         i += 1;
     }
-    Repair::BeyondRepair
+    Correction::Uncorrectable
 }
 
 // Reads a header: as it stands if it is right, else as the right one that differs in one bit.
-pub fn repair_header(header: u32) -> Repair
-    ensures { λ r. ⌜ repairReply r ≡ repairOf header ⌝ }
+pub fn correct_header(header: u32) -> Correction
+    ensures { λ r. ⌜ correctionReply r ≡ correctionOf header ⌝ }
 {
     let syndrome = check_byte(header % 0x1000000) ^ ((header / 0x1000000) as u8);
     if syndrome == 0 {
-        return Repair::Header {
+        return Correction::Header {
             header,
-            mended: Mended::Nothing,
+            corrected: Corrected::Nothing,
         };
     }
-    mend(header, syndrome)
+    correct_bit(header, syndrome)
 }

@@ -16,6 +16,10 @@ module _ (file : RegisterFile) (port : ℕ) where
   unfolding routeOf
   route-refused h = rw (lt-ltb 3 port h)
 
+  pub route-given : port ≤ 3 → routeOf file port ≡ given (forwardedBy (sharedAt file FWD-CTL1) (file .pages) port)
+  unfolding routeOf
+  route-given h = rw (le-ltb 3 port h)
+
   module _ (h : port ≤ 3) where
     pub route-off : bit (4 + port) (sharedAt file FWD-CTL1) ≡ true → routeOf file port ≡ given off
     unfolding routeOf forwardedBy

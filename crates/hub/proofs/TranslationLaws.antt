@@ -23,7 +23,7 @@ use Rattle.hub.specs.declared.translation.PortAnswer.the-variants.{NoMat
 use Rattle.hub.specs.declared.translation.Devices.{Devices}
 use Rattle.hub.specs.declared.translation.Devices.the-variants.{One, Two, Three, Four}
 use Rattle.hub.specs.declared.translation.Matches.{Matches}
-use Rattle.hub.specs.Translation.{address7, isAlias, targetFrom, onPort, onPorts, matching, theHub, nobody, found, reached, whoHearsWrite, answered, whoAnswersRead, devicesOf}
+use Rattle.hub.specs.Translation.{address7, isAlias, targetFrom, onPort, onPorts, matching, theHub, found, reached, whoHearsWrite, answered, whoAnswersRead, devicesOf}
 use Rattle.hub.specs.Collecting.{matchesOf}
 
 module _ (register address : ℕ) where

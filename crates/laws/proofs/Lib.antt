@@ -1,5 +1,5 @@
 pub mod Bits
-pub mod Xor
-pub mod Masked
-pub mod Tabulate
-pub mod Written
+pub mod Bitwise
+pub mod MaskedWrites
+pub mod Tables
+pub mod Buffers

@@ -1,5 +1,5 @@
 pub mod Bits
-pub mod Masked
+pub mod MaskedWrites
 pub mod Reply
-pub mod Tabulate
-pub mod Written
+pub mod Tables
+pub mod Buffers

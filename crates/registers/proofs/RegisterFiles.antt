@@ -1,13 +1,13 @@
 -- The definitions of specs/RegisterFiles.antt by their cases.
 -- Assumes nothing.
-use mathlib.Core.Path.{_≡_, refl, sym, ap, _∙_}
-use mathlib.Core.Bool.{Bool, true, false}
-use mathlib.Core.List.{List, [], _∷_}
+use mathlib.Core.Path.{_≡_, refl}
+use mathlib.Core.Bool.{true, false}
+use mathlib.Core.List.{List}
 use Prim.Native.Nat.{ℕ, _+_, _*_, _<_, _≤_}
 use native.Mathlib.Numerals.{add-one}
 use lib.ListN.{length, getD, set, drop, drop-of-length-le}
 use lib.Seq.{drop-cons}
-use Rattle.laws.specs.Masked.{masked}
+use Rattle.laws.specs.MaskedWrites.{masked}
 use Rattle.registers.specs.declared.RegisterFile.{RegisterFile}
 use Rattle.registers.specs.RegisterMap.{maskOf, perPort}
 use Rattle.registers.specs.RegisterFiles.{sharedAt, pageAt, writeEnabled, readPort, writeShared, writePage, writePorts, writeRegister, nextOffset, writeBurst, readRegister}

@@ -8,7 +8,7 @@ use borrow.Author.Tests.{le-leb, lt-leb}
 use native.Mathlib.Omega.{arith}
 use lib.Dec.{T, eqb, ltb, leb, eqb→eq, ltb→lt}
 use lib.Bits.{bitAnd}
-use Rattle.laws.proofs.Tabulate.{allBelow, below-at}
+use Rattle.laws.proofs.Tables.{allBelow, below-at}
 use Rattle.registers.specs.RegisterMap.{rows, rowIn, resetOf, maskOf, perPort, perPortFlag, ResetsInsideMasks, RAW10-ID, RAW12-ID}
 
 -- the flag of the source's table is 1 exactly where the offset is per-port

@@ -5,8 +5,8 @@ use mathlib.Core.List.{List, [], _∷_}
 use Prim.Native.Nat.{ℕ, zero, suc, _+_, _*_, _/_, _%_}
 use lib.ListN.{getD, set}
 use Rattle.laws.specs.Bits.{bit}
-use Rattle.laws.specs.Masked.{masked}
-use Rattle.laws.specs.Tabulate.{tabulate}
+use Rattle.laws.specs.MaskedWrites.{masked}
+use Rattle.laws.specs.Tables.{tabulate}
 use Rattle.registers.specs.declared.RegisterFile.{RegisterFile}
 use Rattle.registers.specs.RegisterMap.{resetOf, maskOf, perPort, FPD3-PORT-SEL}
 

@@ -1,7 +1,7 @@
 // Bits of a register: whether one is set, and a write under a mask.
 ghost use mathlib.Core.Path.{_≡_};
 ghost use Rattle.laws.specs.Bits.{bit};
-ghost use Rattle.laws.specs.Masked.{masked};
+ghost use Rattle.laws.specs.MaskedWrites.{masked};
 
 // Whether bit `k` of `x` is set.
 pub fn is_set(x: u8, k: u8) -> bool

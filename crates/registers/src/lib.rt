@@ -1,7 +1,7 @@
 // The register file of the DS90UB964-Q1, by value: reset, write, burst and read, and the SCL times.
 ghost use mathlib.Core.Path.{_≡_};
 ghost use Prim.Native.Nat.{_<_};
-ghost use Rattle.laws.specs.Tabulate.{tabulate};
+ghost use Rattle.laws.specs.Tables.{tabulate};
 ghost use Rattle.registers.specs.RegisterMap.{resetOf};
 ghost use Rattle.registers.specs.RegisterFiles.{pageResetAt, resetFile, writeShared, writePorts, writeRegister, nextOffset, writeBurst, readPort, readRegister};
 

@@ -8,15 +8,14 @@ use native.Mathlib.Omega.{arith}
 use lib.Dec.{T, leb, leb→le}
 use lib.ListN.{length, getD}
 use Rattle.laws.specs.Bits.{bit}
-use Rattle.laws.specs.Masked.{masked}
-use Rattle.laws.specs.Tabulate.{tabulate, tabulateFrom}
-use Rattle.laws.proofs.Tabulate.{length-tabulate, allBelow, below-at}
+use Rattle.laws.specs.MaskedWrites.{masked}
+use Rattle.laws.specs.Tables.{tabulate, tabulateFrom}
+use Rattle.laws.proofs.Tables.{length-tabulate, allBelow, below-at}
 use Rattle.registers.specs.RegisterMap.{rows, rowIn, resetOf, maskOf, perPort}
 use Rattle.registers.specs.RegisterFiles.{pageResetAt, resetFile, writeShared, writePage, writePorts, writeRegister, writeBurst}
 use Rattle.hub.specs.Hubs.{ArrayLengths, hubAt, hubBurst}
 use Rattle.setup.specs.SetupBlocks.{Block, runBlock, runBlocks, burstBytes, blockBytes, IsSetupBlock, selectionWritten, ticks, tickers, SetupBlocks}
-use Rattle.setup.specs.Demand3.{Alike}
-use Rattle.setup.specs.Examples.{passThrough03, channels1, PremisesMet, passThroughOn0, passThroughOff0, DisjointNeeded, forward0, forward1, PerPortNeeded, passThroughUnselected, select1, StartNeeded}
+use Rattle.setup.specs.Examples.{passThrough03, channels1, PremisesMet, DisjointNeeded, forward0, forward1, PerPortNeeded, passThroughUnselected, select1, StartNeeded}
 use Rattle.setup.proofs.Order.{demand-3}
 
 -- each of two blocks is a setup block

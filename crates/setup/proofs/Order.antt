@@ -1,11 +1,11 @@
 -- Demand 3, proved.
 -- Assumes nothing.
-use mathlib.Core.Path.{_≡_, refl, sym, ap, _∙_}
+use mathlib.Core.Path.{_≡_, sym, ap, _∙_}
 use mathlib.Core.Bool.{Bool, cond}
-use mathlib.Core.List.{List, [], _∷_, List·Memᴰ, List·Permᴰ}
+use mathlib.Core.List.{List}
 use Prim.Native.Nat.{ℕ, _+_, _*_, _/_, _%_, _<_}
 use native.Mathlib.Omega.{arith}
-use lib.ListN.{length, getD}
+use lib.ListN.{length}
 use lib.Seq.{ext-getD}
 use Rattle.registers.specs.RegisterMap.{FWD-CTL1, FPD3-PORT-SEL}
 use Rattle.registers.specs.RegisterFiles.{pageAt}
@@ -13,8 +13,8 @@ use Rattle.hub.specs.declared.Hub.{Hub}
 use Rattle.hub.specs.Hubs.{ArrayLengths}
 use Rattle.hub.specs.Routes.{routeOf}
 use Rattle.hub.specs.Translation.{whoHearsWrite}
-use Rattle.setup.specs.SetupBlocks.{Block, blockBytes, later, runBlock, runBlocks, ticks, SetupBlocks}
-use Rattle.setup.specs.Demand3.{SameShared, Alike, SamePort, EndsAs, Demand3}
+use Rattle.setup.specs.SetupBlocks.{Block, blockBytes, later, runBlocks, SetupBlocks}
+use Rattle.setup.specs.Demand3.{SameShared, Alike, EndsAs, Demand3}
 use Rattle.setup.proofs.Runs.{afterBytes, afterBlocks, after-block, after-blocks}
 use Rattle.setup.proofs.Tickers.{same-tickers, only-ticker, no-ticker, reordered}
 

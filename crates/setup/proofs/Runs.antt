@@ -3,21 +3,21 @@
 use mathlib.Core.Path.{_≡_, refl, sym, ap, _∙_, subst}
 use mathlib.Core.Bool.{Bool, true, false, cond, _&&_}
 use mathlib.Core.List.{List, [], _∷_, _++_, List·Memᴰ, List·Memᴰ·head, List·Memᴰ·tail}
-use Prim.Native.Nat.{ℕ, _≤_, _<_}
+use Prim.Native.Nat.{ℕ, _<_}
 use native.Mathlib.Omega.{arith}
 use borrow.Author.Tests.{leb-true}
 use lib.Dec.{leb, T}
 use lib.ListN.{length, getD, set, length-set}
 use lib.Seq.{getD-set-same, getD-set-other}
 use Rattle.laws.specs.Bits.{bit}
-use Rattle.laws.specs.Masked.{masked}
+use Rattle.laws.specs.MaskedWrites.{masked}
 use Rattle.registers.specs.declared.RegisterFile.{RegisterFile}
 use Rattle.registers.specs.RegisterMap.{Row, rows, rowIn, maskOf, perPort, FPD3-PORT-SEL}
 use Rattle.registers.specs.RegisterFiles.{sharedAt, pageAt, selection, writeEnabled, writeShared, writePorts, writeRegister, nextOffset, writeBurst}
 use Rattle.registers.proofs.RegisterFiles.{write-paged, write-unpaged}
 use Rattle.hub.specs.declared.Hub.{Hub}
 use Rattle.hub.specs.Hubs.{hubBurst}
-use Rattle.setup.specs.SetupBlocks.{Burst, Block, runBlock, runBlocks, ByteWrite, burstBytes, blockBytes, StartsWithSelection, AllPerPort, later, IsSetupBlock, firstValue, selectionWritten, ticks, tickers}
+use Rattle.setup.specs.SetupBlocks.{Block, runBlock, runBlocks, ByteWrite, burstBytes, blockBytes, StartsWithSelection, AllPerPort, later, IsSetupBlock, firstValue, selectionWritten, ticks, tickers}
 use Rattle.setup.specs.Demand3.{selectionAfter}
 use Rattle.setup.proofs.Selection.{selection-shared, selected-bit, selected-again}
 use Rattle.setup.proofs.PageWrites.{afterByte, Kept, kept-then, ports-kept, port-written}

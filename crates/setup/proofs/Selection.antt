@@ -6,9 +6,9 @@ use Prim.Native.Nat.{ℕ, _<_}
 use native.Mathlib.Omega.{arith}
 use lib.Dec.{lit<}
 use Rattle.laws.specs.Bits.{bit}
-use Rattle.laws.specs.Masked.{masked}
-use Rattle.laws.proofs.Masked.{masked-bit, masked-again}
-use Rattle.laws.proofs.Tabulate.{allBelow, true-below}
+use Rattle.laws.specs.MaskedWrites.{masked}
+use Rattle.laws.proofs.MaskedWrites.{masked-bit, masked-again}
+use Rattle.laws.proofs.Tables.{allBelow, true-below}
 use Rattle.registers.specs.RegisterMap.{rows, rowIn, maskOf, perPort, FPD3-PORT-SEL}
 
 pub selection-shared : perPort FPD3-PORT-SEL ≡ false

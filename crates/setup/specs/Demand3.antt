@@ -14,7 +14,7 @@ use mathlib.Core.Bool.{true, false}
 use mathlib.Core.List.{List, [], _∷_, List·Memᴰ, List·Permᴰ}
 use Prim.Native.Nat.{ℕ, _<_}
 use lib.ListN.{getD}
-use Rattle.laws.specs.Masked.{masked}
+use Rattle.laws.specs.MaskedWrites.{masked}
 use Rattle.registers.specs.RegisterMap.{maskOf, FPD3-PORT-SEL}
 use Rattle.registers.specs.RegisterFiles.{sharedAt, pageAt, selection}
 use Rattle.hub.specs.declared.Hub.{Hub}

@@ -1,12 +1,12 @@
 -- Demand 3 is no empty claim: a list of two blocks that meets its premises, and for each premise two blocks that break it alone and end otherwise in the
 -- other order. All from the hub 0x3D at reset.
 -- Assumes nothing.
-use mathlib.Core.List.{[], _∷_, List·Memᴰ}
+use mathlib.Core.List.{[], _∷_}
 use Prim.Native.Nat.{ℕ, _≤_, _<_}
 use lib.ListN.{length}
 use Rattle.hub.specs.declared.Hub.{Hub}
 use Rattle.hub.specs.Hubs.{hubAt}
-use Rattle.setup.specs.SetupBlocks.{Burst, Block, runBlocks, blockBytes, StartsWithSelection, AllPerPort, later, IsSetupBlock, tickers, SetupBlocks}
+use Rattle.setup.specs.SetupBlocks.{Burst, Block, runBlocks, blockBytes, StartsWithSelection, AllPerPort, later, tickers, SetupBlocks}
 use Rattle.setup.specs.Demand3.{Alike}
 
 abbrev start : Hub

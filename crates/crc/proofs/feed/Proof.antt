@@ -1,23 +1,20 @@
 -- `crc::feed` meets its contract. The loop's invariant: the sum is that of the first i bytes.
 -- Assumes nothing.
 use mathlib.Core.Path.{_≡_, refl, sym, ap, _∙_}
-use Prim.Native.Nat.{ℕ, _+_, _-_, _/_, _%_, _≤_, _<_}
+use Prim.Native.Nat.{ℕ, _-_, _/_, _%_, _≤_, _<_}
 use mathlib.Core.List.{List}
 use lib.Bits.{bitXor}
 use lib.ListN.{length, take, getD}
 use lib.Seq.{take-length}
-use Rattle.laws.specs.Tabulate.{tabulate}
-use Rattle.laws.proofs.Tabulate.{tabulate-at}
+use Rattle.laws.specs.Tables.{tabulate}
+use Rattle.laws.proofs.Tables.{tabulate-at}
 use Rattle.crc.specs.Checksum.{crcBits, crcFrom}
-use Rattle.crc.specs.Shifts.{shifts}
+use Rattle.crc.specs.ByteShifts.{shifts}
 use Rattle.crc.proofs.ByteAtOnce.{byte-at-once, crc-next}
 use borrow.Author.Needs.{needs}
 use native.Mathlib.Omega.{arith}
 use Rattle.crc.proofs.feed.Statement.{statement}
 use Rattle.crc.proofs.feed.Tie as tie
-use Rattle.crc.proofs.feed.Reads as reads
-use Rattle.crc.proofs.feed.Lts as lts
-use Rattle.crc.proofs.shifted.Reads as shifted-reads
 
 -- one byte by the table
 table-step : (table : List ℕ) (sum b : ℕ) → table ≡ tabulate (shifts 8) 256 → b < 256
@@ -31,8 +28,8 @@ Inv-loop crc bytes table sum₀ i₀ sum i = (i ≤ length bytes) × (sum ≡ cr
 abbrev μ-loop : tie.MeasureT-loop
 μ-loop crc bytes table sum₀ i₀ sum i = length bytes - i
 
-shifted-requires : tie.Need-shifted-requires Inv-loop μ-loop
-shifted-requires c κs = search needs
+shift-table-requires : tie.Need-shift-table-requires Inv-loop μ-loop
+shift-table-requires c κs = search needs
 
 loop-holds : tie.Need-loop-holds Inv-loop μ-loop
 unfolding crcFrom
@@ -65,7 +62,7 @@ loop-again c =
     let b = getD (c .before .before .before .before .before .args .bytes .now) (l .i) 0 in
     let small : b < 256 = (let s = c .shared-slice-known2 .given (l .i) in omega arith) in (
       omega arith,
-      table-step _ (l .sum) b (c .before .before .before .shifted .ensures) small ∙ crc-next _ _ (l .i) (omega arith) (l .inv .1),
+      table-step _ (l .sum) b (c .before .before .before .shift-table .ensures) small ∙ crc-next _ _ (l .i) (omega arith) (l .inv .1),
     )
 
 returns : tie.Need-returns Inv-loop μ-loop
@@ -81,7 +78,7 @@ feed-spec =
     (tie.spec
     Inv-loop
     μ-loop
-    shifted-requires
+    shift-table-requires
     loop-holds
     shared-slice-read-low
     cast-low

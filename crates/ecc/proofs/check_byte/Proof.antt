@@ -1,7 +1,7 @@
 -- `ecc::check_byte` meets its contract: each mask has its ones at the places of the paper's list, by computation.
 -- Assumes nothing.
 use lib.Dec.{lit<}
-use Rattle.ecc.specs.CheckByte.{checkByte}
+use Rattle.ecc.specs.CheckBytes.{checkByte}
 use Rattle.ecc.proofs.Masks.{ones-masked}
 use borrow.Author.Needs.{needs}
 use Rattle.ecc.proofs.check_byte.Statement.{statement}

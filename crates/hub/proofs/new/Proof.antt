@@ -1,6 +1,6 @@
 -- `hub::new` meets its contract, by the three cases of the address.
 -- Assumes nothing.
-use mathlib.Core.Path.{sym, _∙_}
+use mathlib.Core.Path.{sym}
 use Rattle.hub.specs.Hubs.{hubAt}
 use Rattle.hub.proofs.Hubs.{created-below, created-above, created-inside}
 use borrow.Author.Needs.{needs}

@@ -1,7 +1,7 @@
 -- `registers::burst` meets its contract. The loop's invariant: the rest of the burst, from here, ends as the whole burst does.
 -- Assumes nothing.
-use mathlib.Core.Path.{_≡_, refl, sym, ap, _∙_}
-use Prim.Native.Nat.{_+_, _-_, _≤_}
+use mathlib.Core.Path.{_≡_, refl, sym, _∙_}
+use Prim.Native.Nat.{_-_, _≤_}
 use lib.ListN.{length, drop}
 use Rattle.registers.specs.RegisterFiles.{writeBurst}
 use Rattle.registers.proofs.RegisterFiles.{burst-byte, burst-end}

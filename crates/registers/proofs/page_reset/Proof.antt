@@ -2,10 +2,10 @@
 -- Assumes nothing.
 use mathlib.Core.Path.{_≡_, sym, ap, _∙_}
 use mathlib.Core.List.{List}
-use Prim.Native.Nat.{ℕ, _+_, _*_, _/_, _%_, _<_}
+use Prim.Native.Nat.{ℕ, _+_, _*_, _/_, _%_}
 use lib.ListN.{getD}
-use Rattle.laws.specs.Tabulate.{tabulate}
-use Rattle.laws.proofs.Tabulate.{tabulate-at}
+use Rattle.laws.specs.Tables.{tabulate}
+use Rattle.laws.proofs.Tables.{tabulate-at}
 use Rattle.registers.specs.RegisterMap.{resetOf}
 use Rattle.registers.specs.RegisterFiles.{pageResetAt}
 use Rattle.registers.proofs.RegisterMap.{reset-byte, reset-id, reset-below, reset-above}

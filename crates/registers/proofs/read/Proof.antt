@@ -1,8 +1,6 @@
 -- `registers::read` meets its contract, by the two cases of the definition.
 -- Assumes nothing.
-use mathlib.Core.Path.{_≡_, sym, ap, _∙_}
-use Prim.Native.Nat.{ℕ}
-use Rattle.registers.specs.RegisterFiles.{pageAt}
+use mathlib.Core.Path.{sym, _∙_}
 use Rattle.registers.proofs.RegisterFiles.{read-paged, read-unpaged}
 use borrow.Author.Needs.{needs}
 use Rattle.registers.proofs.read.Statement.{statement}

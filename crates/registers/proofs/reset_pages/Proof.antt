@@ -2,7 +2,7 @@
 -- Assumes nothing.
 use Prim.Native.Nat.{ℕ, _-_}
 use lib.ListN.{length-replicate}
-use Rattle.laws.proofs.Tabulate.{Filled, filled-none, filled-more, filled-all}
+use Rattle.laws.proofs.Tables.{Filled, filled-none, filled-more, filled-all}
 use Rattle.registers.specs.RegisterFiles.{pageResetAt}
 use borrow.Author.Needs.{needs}
 use native.Mathlib.Omega.{arith}

@@ -1,6 +1,6 @@
 // Which of the 256 offsets are per-port: 1 where the offset is paged by port, 0 where it is shared.
 ghost use mathlib.Core.Path.{_≡_};
-ghost use Rattle.laws.specs.Tabulate.{tabulate};
+ghost use Rattle.laws.specs.Tables.{tabulate};
 ghost use Rattle.registers.specs.RegisterMap.{perPortFlag};
 
 const PER_PORT: [u8; 256] = [

@@ -1,6 +1,6 @@
 // The writable bits of each of the 256 offsets.
 ghost use mathlib.Core.Path.{_≡_};
-ghost use Rattle.laws.specs.Tabulate.{tabulate};
+ghost use Rattle.laws.specs.Tables.{tabulate};
 ghost use Rattle.registers.specs.RegisterMap.{maskOf};
 
 const WRITE_MASK: [u8; 256] = [

@@ -1,6 +1,6 @@
 -- `hub::translation::matches_for` meets its contract: one port's answer is collected after the other.
 -- Assumes nothing.
-use mathlib.Core.Path.{_≡_, refl, ap, _∙_}
+use mathlib.Core.Path.{refl, ap, _∙_}
 use mathlib.Core.List.{[], _∷_}
 use lib.Dec.{lit≤}
 use Rattle.hub.specs.declared.translation.Matches.the-variants.{Nobody}

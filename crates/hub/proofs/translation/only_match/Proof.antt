@@ -1,6 +1,6 @@
 -- `hub::translation::only_match` meets its contract, by the cases of what matches.
 -- Assumes nothing.
-use mathlib.Core.Path.{_≡_, sym, ap, _∙_}
+use mathlib.Core.Path.{sym, ap, _∙_}
 use Rattle.hub.specs.declared.translation.PortAnswer.the-variants.{NoMatch}
 use Rattle.hub.specs.Translation.{answered}
 use Rattle.hub.specs.Collecting.{matchesOf}

@@ -1,6 +1,6 @@
 -- `hub::translation::who_answers_read` meets its contract, by the cases of the definition.
 -- Assumes nothing.
-use mathlib.Core.Path.{_≡_, refl, sym, _∙_}
+use mathlib.Core.Path.{refl, sym, _∙_}
 use Rattle.hub.proofs.TranslationLaws.{read-port-answer, read-refused, read-hub, read-own, read-ports}
 use borrow.Author.Needs.{needs}
 use Rattle.hub.proofs.translation.who_answers_read.Statement.{statement}

@@ -1,6 +1,6 @@
 -- `hub::translation::who_hears_write` meets its contract, by the cases of the definition.
 -- Assumes nothing.
-use mathlib.Core.Path.{_≡_, sym, ap, _∙_}
+use mathlib.Core.Path.{sym, ap, _∙_}
 use Rattle.laws.specs.Reply.{given}
 use Rattle.hub.specs.Collecting.{matchesOf}
 use Rattle.hub.proofs.TranslationLaws.{write-refused, write-hub, write-ports, reached-some}

@@ -1,6 +1,6 @@
 -- `registers::bits::masked_write` meets its contract.
 -- Assumes nothing.
-use Rattle.laws.specs.Masked.{masked}
+use Rattle.laws.specs.MaskedWrites.{masked}
 use borrow.Author.Needs.{needs}
 use Rattle.registers.proofs.bits.masked_write.Statement.{statement}
 use Rattle.registers.proofs.bits.masked_write.Tie as tie

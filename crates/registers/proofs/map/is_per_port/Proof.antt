@@ -1,6 +1,6 @@
 -- `registers::map::is_per_port` meets its contract.
 -- Assumes nothing.
-use Rattle.laws.proofs.Tabulate.{tabulate-at}
+use Rattle.laws.proofs.Tables.{tabulate-at}
 use Rattle.registers.specs.RegisterMap.{perPortFlag}
 use Rattle.registers.proofs.RegisterMap.{flag-perPort}
 use borrow.Author.Needs.{needs}

@@ -1,6 +1,6 @@
 -- `registers::map::write_mask` meets its contract.
 -- Assumes nothing.
-use Rattle.laws.proofs.Tabulate.{tabulate-at}
+use Rattle.laws.proofs.Tables.{tabulate-at}
 use Rattle.registers.specs.RegisterMap.{maskOf}
 use borrow.Author.Needs.{needs}
 use Rattle.registers.proofs.map.write_mask.Statement.{statement}

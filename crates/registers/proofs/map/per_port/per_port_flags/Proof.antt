@@ -1,7 +1,7 @@
 -- `registers::map::per_port::per_port_flags` meets its contract: the whole table is computed from the rows and compared.
 -- Assumes nothing.
 use mathlib.Core.Path.{refl}
-use Rattle.laws.specs.Tabulate.{tabulate, tabulateFrom}
+use Rattle.laws.specs.Tables.{tabulate, tabulateFrom}
 use Rattle.registers.specs.RegisterMap.{rows, rowIn, perPortFlag, perPort}
 use Rattle.registers.proofs.map.per_port.per_port_flags.Statement.{statement}
 use Rattle.registers.proofs.map.per_port.per_port_flags.Tie as tie

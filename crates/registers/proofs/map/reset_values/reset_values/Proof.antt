@@ -1,7 +1,7 @@
 -- `registers::map::reset_values::reset_values` meets its contract: the whole table is computed from the rows and compared.
 -- Assumes nothing.
 use mathlib.Core.Path.{refl}
-use Rattle.laws.specs.Tabulate.{tabulate, tabulateFrom}
+use Rattle.laws.specs.Tables.{tabulate, tabulateFrom}
 use Rattle.registers.specs.RegisterMap.{rows, rowIn, resetOf}
 use Rattle.registers.proofs.map.reset_values.reset_values.Statement.{statement}
 use Rattle.registers.proofs.map.reset_values.reset_values.Tie as tie

@@ -1,7 +1,7 @@
 -- `registers::map::write_masks::write_masks` meets its contract: the whole table is computed from the rows and compared.
 -- Assumes nothing.
 use mathlib.Core.Path.{refl}
-use Rattle.laws.specs.Tabulate.{tabulate, tabulateFrom}
+use Rattle.laws.specs.Tables.{tabulate, tabulateFrom}
 use Rattle.registers.specs.RegisterMap.{rows, rowIn, maskOf}
 use Rattle.registers.proofs.map.write_masks.write_masks.Statement.{statement}
 use Rattle.registers.proofs.map.write_masks.write_masks.Tie as tie

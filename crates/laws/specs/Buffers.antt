@@ -1,0 +1,20 @@
+-- A lent buffer after some bytes were written into it from a place.
+-- Assumes nothing.
+use mathlib.Core.List.{List, _++_}
+use Prim.Native.Nat.{ℕ, _+_}
+use lib.ListN.{length, take, drop}
+use Rattle.laws.specs.Reply.{Reply, refused, given}
+
+-- Document 01: "written from a given place in the caller's buffer; bytes before and after it stay."
+unfoldable pub written : List ℕ → ℕ → List ℕ → List ℕ
+written buffer place bytes = take place buffer ++ bytes ++ drop (place + length bytes) buffer
+
+-- Demand 1: "A refusal [...] writes no byte of a lent buffer"
+abbrev pub afterReply : List ℕ → ℕ → Reply (List ℕ) → List ℕ
+afterReply buffer place (refused number) = buffer
+afterReply buffer place (given bytes) = written buffer place bytes
+
+-- the answer to the caller: how many bytes, or which refusal
+abbrev pub countOf : Reply (List ℕ) → Reply ℕ
+countOf (refused number) = refused number
+countOf (given bytes) = given (length bytes)
