@@ -7,8 +7,26 @@ use Rattle.laws.specs.Tables.{tabulate, tabulateFrom}
 use Rattle.registers.specs.RegisterMap.{rows, rowIn, resetOf, maskOf, perPort}
 use Rattle.registers.specs.RegisterFiles.{pageResetAt, resetFile, writeShared, writePage, writePorts, writeRegister, writeBurst, readRegister}
 use Rattle.hub.specs.Hubs.{hubAt, hubBurst, hubRead}
+use Rattle.ecc.specs.CheckBytes.{onesAmong, checkByte}
+use Rattle.ecc.specs.HeaderCorrection.{isRight, correctFrom, correctionOf}
+use Rattle.csi2.specs.Raw.{packGroup, packGroups, payloadOf}
+use Rattle.csi2.specs.Reader.{readBody, readPacket}
 use Rattle.cases.specs.StarredCases.{StarredCases}
 
 pub starred-cases : StarredCases
-unfolding bit masked tabulate tabulateFrom rows rowIn resetOf maskOf perPort pageResetAt resetFile writeShared writePage writePorts writeRegister writeBurst readRegister hubAt hubBurst hubRead
-starred-cases = record { csiSpeed = refl; parityControl = refl; portSelection = refl; noPortChanges = refl; stillReset = refl }
+unfolding bit masked tabulate tabulateFrom rows rowIn resetOf maskOf perPort pageResetAt resetFile writeShared writePage writePorts writeRegister writeBurst readRegister hubAt hubBurst hubRead onesAmong checkByte isRight correctFrom correctionOf readBody readPacket packGroup packGroups payloadOf
+starred-cases =
+    record {
+      csiSpeed = refl;
+      parityControl = refl;
+      portSelection = refl;
+      noPortChanges = refl;
+      stillReset = refl;
+      zeroHeader = refl;
+      startHeader = refl;
+      identifierBit = refl;
+      checkBit = refl;
+      twoBits = refl;
+      raw10 = refl;
+      raw12 = refl;
+    }

@@ -1,7 +1,11 @@
 // Runs the worked cases of document 01 and prints what the model answers, one line a case.
+mod frame_cases;
+mod packet_cases;
 mod print;
 mod register_cases;
 
 fn main() {
     register_cases::run();
+    packet_cases::run();
+    frame_cases::run(register_cases::start());
 }

@@ -37,6 +37,15 @@ pub fn byte(b: u8) {
     text(&digits);
 }
 
+// Bytes as hexadecimal, run together.
+pub fn bytes(all: &[u8]) {
+    let mut i = 0;
+    while i < all.len() {
+        byte(all[i]);
+        i += 1;
+    }
+}
+
 // A refusal: its number after an exclamation mark.
 pub fn refusal(number: u64) {
     text(b" !");

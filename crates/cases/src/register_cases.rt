@@ -9,7 +9,7 @@ use hub::translation::Remote;
 use hub::translation::WriteAnswer;
 
 // The hub 0x3D at reset. (A refused address is said, and the case goes on with the hub that stands beside the refusal.)
-fn start() -> Hub {
+pub fn start() -> Hub {
     let made = hub::new(0x3D);
     let answer = made.answer;
     match answer {

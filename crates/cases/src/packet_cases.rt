@@ -1,0 +1,181 @@
+// The cases on packets: check byte, header correction, RAW10 and RAW12, checksum, and the borders of a line.
+use crate::print;
+use csi2::line;
+use csi2::line::LineAnswer;
+use csi2::raw;
+use csi2::raw::PackAnswer;
+use csi2::reader;
+use csi2::reader::PacketRead;
+use ecc::Corrected;
+use formats::Format;
+
+// The standard's two checksum vectors.
+const FIRST_VECTOR: [u8; 24] = [
+    0xFF,
+    0x00,
+    0x00,
+    0x02,
+    0xB9,
+    0xDC,
+    0xF3,
+    0x72,
+    0xBB,
+    0xD4,
+    0xB8,
+    0x5A,
+    0xC8,
+    0x75,
+    0xC2,
+    0x7C,
+    0x81,
+    0xF8,
+    0x05,
+    0xDF,
+    0xFF,
+    0x00,
+    0x00,
+    0x01,
+];
+
+const SECOND_VECTOR: [u8; 24] = [
+    0xFF,
+    0x00,
+    0x00,
+    0x00,
+    0x1E,
+    0xF0,
+    0x1E,
+    0xC7,
+    0x4F,
+    0x82,
+    0x78,
+    0xC5,
+    0x82,
+    0xE0,
+    0x8C,
+    0x70,
+    0xD2,
+    0x3C,
+    0x78,
+    0xE9,
+    0xFF,
+    0x00,
+    0x00,
+    0x01,
+];
+
+fn print_check_byte(word: u32) {
+    print::text(b"check byte of the header word");
+    print::decimal(word as u64);
+    print::text(b": ");
+    print::byte(ecc::check_byte(word));
+    print::end_line();
+}
+
+fn print_corrected(corrected: Corrected) {
+    match corrected {
+        Corrected::Nothing => print::text(b" nothing corrected"),
+        Corrected::HeaderBit(bit) => {
+            print::text(b" corrected bit");
+            print::decimal(bit as u64);
+        }
+    }
+}
+
+fn print_read(bytes: &[u8]) {
+    print::text(b"read ");
+    print::bytes(bytes);
+    print::text(b":");
+    match reader::read_packet(bytes) {
+        PacketRead::Truncated => print::refusal(12),
+        PacketRead::HeaderUncorrectable => print::refusal(10),
+        PacketRead::ChecksumWrong => print::refusal(11),
+        PacketRead::Accepted {
+            data_identifier,
+            word_count,
+            corrected,
+        } => {
+            print::text(b" ");
+            print::byte(data_identifier);
+            print::decimal(word_count as u64);
+            print_corrected(corrected);
+        }
+    }
+    print::end_line();
+}
+
+fn print_packed(format: Format, pixels: &[u16]) {
+    let mut buf = [0u8; 8];
+    match raw::pack_line(format, pixels, &mut buf, 0) {
+        PackAnswer::WidthNotAllowed => print::refusal(5),
+        PackAnswer::PixelTooLarge => print::refusal(6),
+        PackAnswer::NoRoom => print::refusal(8),
+        PackAnswer::Packed(bytes) => {
+            print::decimal(bytes as u64);
+            print::text(b" bytes, with the rest of 8: ");
+            print::bytes(&buf);
+        }
+    }
+    print::end_line();
+}
+
+fn print_checksum(bytes: &[u8]) {
+    let sum = crc::checksum(bytes);
+    print::text(b"checksum of the standard's vector: ");
+    print::byte((sum / 256) as u8);
+    print::byte((sum % 256) as u8);
+    print::end_line();
+}
+
+fn print_line(format: Format, pixels: &[u16], identifier: u8) {
+    let mut buf = [0u8; 6150];
+    match line::write_line(format, pixels, identifier, &mut buf, 0) {
+        LineAnswer::WidthNotAllowed => print::refusal(5),
+        LineAnswer::PixelTooLarge => print::refusal(6),
+        LineAnswer::ShortType => print::refusal(7),
+        LineAnswer::NoRoom => print::refusal(8),
+        LineAnswer::Wrote(bytes) => {
+            print::decimal(bytes as u64);
+            print::text(b" bytes");
+        }
+    }
+    print::end_line();
+}
+
+// The widths and pixels at the borders, as RAW10 and as RAW12.
+fn print_borders() {
+    let zeros = [0u16; 4097];
+    print::text(b"RAW10, width 4096:");
+    print_line(Format::Raw10, &zeros[..4096], 0x2B);
+    print::text(b"RAW12, width 4096:");
+    print_line(Format::Raw12, &zeros[..4096], 0x2C);
+    print::text(b"RAW10, width 4097:");
+    print_line(Format::Raw10, &zeros, 0x2B);
+    print::text(b"RAW12, width 0:");
+    print_line(Format::Raw12, &zeros[..0], 0x2C);
+    print::text(b"RAW10, pixel 3FF:");
+    let largest = [0x3FFu16; 4];
+    print_line(Format::Raw10, &largest, 0x2B);
+    print::text(b"RAW10, pixel 400:");
+    let too_large = [0x400u16; 4];
+    print_line(Format::Raw10, &too_large, 0x2B);
+    print::text(b"type 10:");
+    print_line(Format::Raw10, &largest, 0x10);
+    print::text(b"type 0F:");
+    print_line(Format::Raw10, &largest, 0x0F);
+}
+
+pub fn run() {
+    print_check_byte(0x000000);
+    print_check_byte(0x000140);
+    print_read(&[0x41, 0x01, 0x00, 0x0C]);
+    print_read(&[0x40, 0x01, 0x00, 0x4C]);
+    print_read(&[0x40, 0x01, 0x00, 0x0F]);
+    print::text(b"RAW10 of 3FF, 0, 0, 1:");
+    print_packed(Format::Raw10, &[0x3FF, 0, 0, 1]);
+    print::text(b"RAW12 of ABC, 123:");
+    print_packed(Format::Raw12, &[0xABC, 0x123]);
+    print_checksum(&FIRST_VECTOR);
+    print_checksum(&SECOND_VECTOR);
+    print_borders();
+}
