@@ -2,11 +2,12 @@
 -- Assumes nothing.
 use mathlib.Core.Path.{_≡_, refl, sym, ap, ap₂, _∙_}
 use mathlib.Core.List.{List, [], _∷_, _++_, append-assoc, append-nil}
-use Prim.Native.Nat.{ℕ, zero, suc, _+_, _-_, _≤_}
+use Prim.Native.Nat.{ℕ, zero, suc, _+_, _-_, _<_, _≤_}
 use native.Mathlib.Nat.{add-zero, zero-add, add-assoc}
+use native.Mathlib.Numerals.{add-one}
 use native.Mathlib.Omega.{arith}
-use lib.ListN.{length, take, drop, getD, length-append, length-drop, take-append-drop}
-use lib.Seq.{take-all, drop-length, length-take-le, drop-cons, take-add, take-at, drop-at, drop-append-add, sets, sets-eq, drop-drop}
+use lib.ListN.{length, take, drop, getD, set, length-append, length-drop, take-append-drop}
+use lib.Seq.{take-all, drop-length, length-take-le, drop-cons, take-add, take-at, drop-at, drop-append-add, sets, sets-eq, paste, paste-suc, drop-drop}
 use borrow.Rule.Slice.PartMut.{putMid, midOf, postOf, post-is}
 use Rattle.laws.specs.Buffers.{written}
 
@@ -55,6 +56,20 @@ module _ (d : List ℕ) (at : ℕ) (a : List ℕ) (fits : at + length a ≤ leng
   -- what is read back is what was written
   pub read-written : take (length a) (drop at (written d at a)) ≡ a
   read-written = ap (take (length a)) drop-written ∙ take-at a (drop (at + length a) d) (length a) refl
+
+-- the first bytes of a list, written as a copy of them
+written-taken : (d : List ℕ) (at : ℕ) (bytes : List ℕ) (i : ℕ) → i ≤ length bytes → written d at (take i bytes) ≡ paste d at bytes i
+unfolding written
+written-taken d at bytes i h = ap (λ (k : ℕ). take at d ++ take i bytes ++ drop (at + k) d) (length-take-le i bytes h)
+
+-- one more of them: a turn of a loop that copies
+pub written-next : (d : List ℕ) (at : ℕ) (bytes : List ℕ) (i : ℕ) → i < length bytes → at + length bytes ≤ length d
+    → set (written d at (take i bytes)) (at + i) (getD bytes i 0) ≡ written d at (take (i + 1) bytes)
+written-next d at bytes i h fits =
+    ap (λ (l : List ℕ). set l (at + i) (getD bytes i 0)) (written-taken d at bytes i (omega arith))
+    ∙ paste-suc d at bytes i 0 (omega arith) h
+    ∙ sym (written-taken d at bytes (suc i) h)
+    ∙ ap (λ (k : ℕ). written d at (take k bytes)) (sym (add-one i))
 
 -- A part from the place on, `&mut d[at..]`, was lent to a writer that wrote at its start, and is back.
 pub lent-written : (d part bytes : List ℕ) (at : ℕ) → at + length bytes ≤ length d → part ≡ written (midOf at (length d - at) d) 0 bytes

@@ -1,0 +1,22 @@
+-- `lines::text::put_byte` meets its contract: one store.
+-- Assumes nothing.
+use mathlib.Core.Path.{refl}
+use borrow.Author.Needs.{needs}
+use Rattle.lines.proofs.PutLaws.{put-one}
+use Rattle.lines.proofs.text.put_byte.Statement.{statement}
+use Rattle.lines.proofs.text.put_byte.Tie as tie
+
+slice-write-out : tie.Need-slice-write-out
+slice-write-out c = search needs
+
+add-result : tie.Need-add-result
+add-result c = search needs
+
+same-length : tie.Need-same-length
+same-length c = search needs
+
+returns : tie.Need-returns
+returns c = let x = c .args in put-one (x .out .now) (x .at) (x .byte) (c .pre) refl
+
+pub put-byte-spec : {M : Type 1} → statement M
+put-byte-spec = tie.close (tie.spec slice-write-out add-result same-length returns)

@@ -1,0 +1,26 @@
+-- `trace::start_record` meets its contract, by its length.
+-- Assumes nothing.
+use Rattle.trace.proofs.RecordLaws.{other-length, start-right}
+use borrow.Author.Needs.{needs}
+use Rattle.trace.proofs.start_record.Statement.{statement}
+use Rattle.trace.proofs.start_record.Tie as tie
+
+shared-slice-read-if1 : tie.Need-shared-slice-read-if1
+shared-slice-read-if1 c = search needs
+
+returns : tie.Need-returns
+returns c = let s = c .before .before in other-length (s .args .bytes .now) (s .pre) 2 _ (c .if1 .taken)
+
+shared-slice-read-t3 : tie.Need-shared-slice-read-t3
+shared-slice-read-t3 c = search needs
+
+shared-slice-read-t7 : tie.Need-shared-slice-read-t7
+shared-slice-read-t7 c = search needs
+
+returns-2 : tie.Need-returns-2
+returns-2 c = let s = c .before .before .before .before in start-right (s .args .bytes .now) (s .pre) (c .before .before .if1 .left)
+
+pub start-record-spec : {M : Type 1} → statement M
+start-record-spec =
+    tie.close
+    (tie.spec shared-slice-read-if1 returns shared-slice-read-t3 shared-slice-read-t7 returns-2)
