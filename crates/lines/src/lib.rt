@@ -68,7 +68,7 @@ pub enum TextAnswer {
 }
 
 // Whether 64 bytes are free from the place on.
-fn has_text_room(size: usize, at: usize) -> bool
+pub fn has_text_room(size: usize, at: usize) -> bool
     ensures { λ r. ⌜ r ≡ leb (at + 64) size ⌝ }
 {
     if size < 64 {

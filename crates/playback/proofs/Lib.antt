@@ -1,0 +1,9 @@
+pub mod EventReplies
+pub mod RecordPlays
+pub mod TextLengths
+pub mod RecordReplies
+pub mod PlayingLaws
+pub mod RestLaws
+pub mod ShownRecords
+pub mod WindowsLaws
+pub mod WindowPlays

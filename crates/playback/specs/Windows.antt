@@ -1,0 +1,109 @@
+-- How the source plays a file in windows, and the law that makes it right: however the file is cut, what is printed is the player's text.
+-- Assumes nothing.
+use mathlib.Core.Path.{_≡_}
+use mathlib.Core.Bool.{Bool, true, false, cond, not, _&&_}
+use mathlib.Core.List.{List, [], _++_}
+use Prim.Native.Nat.{ℕ, zero, suc, _+_, _%_, _^_, _≤_, _<_}
+use lib.Dec.{eqb, leb}
+use lib.ListN.{length, drop, replicate}
+use Rattle.laws.specs.Reply.{isRefused}
+use Rattle.laws.specs.Buffers.{written}
+use Rattle.hub.specs.Hubs.{hubAt}
+use Rattle.trace.specs.Records.{holdsRecord, recordOf}
+use Rattle.lines.specs.Lines.{lineText, countsText}
+use Rattle.playback.specs.declared.Session.{Session}
+use Rattle.playback.specs.Playing.{Played, playRecord, usedBy, answersFrom, packetRoom, linesFrom, refusedAmong, playerText}
+
+-- the player before record 1
+abbrev pub newSession : Session
+newSession = record { hub = hubAt 0; records = 0; refusals = 0; ended = false }
+
+abbrev pub isFirst : Session → Bool
+isFirst session = eqb (session .records) 0
+
+-- the session after a record; its counts have 64 bits
+unfoldable pub sessionAfter : Session → Played → Session
+sessionAfter session played =
+    record {
+      hub = played .hub;
+      records = (session .records + 1) % 2 ^ 64;
+      refusals = (session .refusals + cond (isRefused (played .reply)) 1 0) % 2 ^ 64;
+      ended = played .ends;
+    }
+
+-- A window is being played: the session, how many of its bytes are played, the lent packet buffer, and the lent buffer for text with the next free place.
+pub record WindowState : Type 0 where
+  pub session : Session
+  pub used : ℕ
+  pub packets : List ℕ
+  pub out : List ℕ
+  pub at : ℕ
+
+-- There is something to play: the run has not ended; the window holds a whole record or, at the file's end (`last`), any byte; and 64 bytes are free for a line,
+-- which has at most 52.
+abbrev pub mayPlayNext : Session → List ℕ → Bool → ℕ → ℕ → Bool
+mayPlayNext session left last size at = not (session .ended) && cond last (not (eqb (length left) 0)) (holdsRecord left) && leb (at + 64) size
+
+unfoldable pub mayPlay : Bool → List ℕ → WindowState → Bool
+mayPlay last window state = mayPlayNext (state .session) (drop (state .used) window) last (length (state .out)) (state .at)
+
+-- one record of the window
+unfoldable pub playOne : List ℕ → WindowState → WindowState
+playOne window state =
+    let left = drop (state .used) window in
+    let found = recordOf (isFirst (state .session)) left in
+    let played = playRecord (state .session .hub) (state .packets) found in
+    let next = sessionAfter (state .session) played in
+    let text = lineText (next .records) (played .reply) in
+    record {
+      session = next;
+      used = state .used + usedBy left found;
+      packets = played .packets;
+      out = written (state .out) (state .at) text;
+      at = state .at + length text;
+    }
+
+-- the window's records, at most n of them
+unfoldable pub playWindow : ℕ → Bool → List ℕ → WindowState → WindowState
+playWindow zero last window state = state
+playWindow (suc n) last window state = cond (mayPlay last window state) (playWindow n last window (playOne window state)) state
+
+-- what is still to be printed from a session on, with those bytes of the file left
+unfoldable pub restText : Session → List ℕ → List ℕ → List ℕ
+restText session packets left =
+    let answers = cond (session .ended) [] (answersFrom (length left) (isFirst session) (session .hub) packets left) in
+    linesFrom (session .records + 1) answers ++ countsText (session .records + length answers) (session .refusals + refusedAmong answers)
+
+-- a session that counts right: there are fewer than 2 ^ 64 records, since there are fewer bytes
+abbrev pub CountsFit : Session → List ℕ → Type 0
+CountsFit session left = (session .records + length left < 2 ^ 64) × (session .refusals + length left < 2 ^ 64)
+
+-- At first all of the player's text is to be printed; at the end the last line alone.
+abbrev pub StartsWithAll : Type 0
+StartsWithAll = (file : List ℕ) → restText newSession (replicate packetRoom 0) file ≡ playerText file
+
+abbrev pub EndsWithCounts : Type 0
+EndsWithCounts =
+    (session : Session) (packets left : List ℕ) → cond (session .ended) true (eqb (length left) 0) ≡ true
+    → restText session packets left ≡ countsText (session .records) (session .refusals)
+
+-- What a window prints is the next part of what is to be printed, whatever stands behind it in the file (at the file's end, nothing).
+pub record PrintsNext (window rest : List ℕ) (before after : WindowState) : Type 0 where
+  pub text : List ℕ
+  pub stored : after .out ≡ written (before .out) (before .at) text
+  pub place : after .at ≡ before .at + length text
+  pub inside : after .at ≤ length (before .out)
+  pub printed : restText (before .session) (before .packets) (drop (before .used) window ++ rest)
+      ≡ text ++ restText (after .session) (after .packets) (drop (after .used) window ++ rest)
+  pub counts : CountsFit (after .session) (drop (after .used) window ++ rest)
+
+abbrev pub WindowsPrint : Type 0
+WindowsPrint =
+    (n : ℕ) (last : Bool) (window rest : List ℕ) (before : WindowState) → (last ≡ true → rest ≡ []) → before .at ≤ length (before .out)
+    → CountsFit (before .session) (drop (before .used) window ++ rest) → PrintsNext window rest before (playWindow n last window before)
+
+-- and a window is played as far as it can be, where as many records are allowed as it has bytes
+abbrev pub PlaysOut : Type 0
+PlaysOut =
+    (n : ℕ) (last : Bool) (window : List ℕ) (before : WindowState) → length (drop (before .used) window) ≤ n
+    → mayPlay last window (playWindow n last window before) ≡ false

@@ -1,0 +1,191 @@
+//! The worked cases of document 01 and the standard's checksum vectors, answered by this package's
+//! own model and written as the proved program `cases` writes them.
+
+use crate::checksum;
+use crate::frames::{Format, Outcome};
+use crate::header;
+use crate::hub::{Direction, Heard, Hub, Role};
+use crate::packet;
+use crate::pixels;
+use crate::refusal::Refusal;
+use std::fmt::Write;
+
+const FIRST_VECTOR: [u8; 24] = [
+    0xFF, 0x00, 0x00, 0x02, 0xB9, 0xDC, 0xF3, 0x72, 0xBB, 0xD4, 0xB8, 0x5A, 0xC8, 0x75, 0xC2, 0x7C,
+    0x81, 0xF8, 0x05, 0xDF, 0xFF, 0x00, 0x00, 0x01,
+];
+
+const SECOND_VECTOR: [u8; 24] = [
+    0xFF, 0x00, 0x00, 0x00, 0x1E, 0xF0, 0x1E, 0xC7, 0x4F, 0x82, 0x78, 0xC5, 0x82, 0xE0, 0x8C, 0x70,
+    0xD2, 0x3C, 0x78, 0xE9, 0xFF, 0x00, 0x00, 0x01,
+];
+
+/// All the cases, one line each.
+pub fn report() -> String {
+    let mut lines = Vec::new();
+    registers(&mut lines);
+    addresses(&mut lines);
+    headers(&mut lines);
+    payloads(&mut lines);
+    borders(&mut lines);
+    frame_numbers(&mut lines);
+    lines.iter().map(|line| format!("{line}\n")).collect()
+}
+
+/// The hub 0x3D after reset and these writes.
+fn hub(writes: &[(u8, u8)]) -> Hub {
+    let mut hub = Hub::new(0x3D).expect("0x3D is an address that a hub may have");
+    for &(offset, value) in writes {
+        hub.registers.write(offset, value);
+    }
+    hub
+}
+
+fn registers(lines: &mut Vec<String>) {
+    for offset in [0x1F, 0xB6, 0x4C] {
+        let value = hub(&[(offset, 0xFF)]).registers.read(offset);
+        lines.push(format!("register {offset:02X} after FF: {value:02X}"));
+    }
+    let registers = hub(&[]).registers;
+    let (high, low) = (registers.scl_high_time_ns(), registers.scl_low_time_ns());
+    lines.push(format!("SCL high and low time after reset: {high} {low}"));
+}
+
+fn addresses(lines: &mut Vec<String>) {
+    let cases = [("broadcast", 0x0F), ("ports 0 and 1, read port 2", 0x23)];
+    for (name, selection) in cases {
+        let hub = hub(&[
+            (0x4C, selection),
+            (0x58, 0x58),
+            (0x5C, 0x18),
+            (0x5D, 0x60),
+            (0x65, 0x60),
+        ]);
+        let write = heard(hub.who_hears(0x30, Direction::Write));
+        lines.push(format!("{name}, write to 30:{write}"));
+        let read = heard(hub.who_hears(0x30, Direction::Read));
+        lines.push(format!("{name}, read of 30:{read}"));
+    }
+}
+
+fn heard(answer: Result<Heard, Refusal>) -> String {
+    let devices = match answer {
+        Err(refusal) => return format!(" ! {}", refusal.number()),
+        Ok(Heard::Hub) => return " hub".into(),
+        Ok(Heard::Nobody) => return " none".into(),
+        Ok(Heard::Devices(devices)) => devices,
+    };
+    let mut text = String::new();
+    for device in devices.iter().flatten() {
+        let mark = if device.role == Role::Serializer {
+            "s"
+        } else {
+            ""
+        };
+        let _ = write!(text, " {}:{mark}{:02X}", device.port, device.address);
+    }
+    text
+}
+
+fn hex(bytes: &[u8]) -> String {
+    bytes.iter().map(|byte| format!("{byte:02X}")).collect()
+}
+
+fn headers(lines: &mut Vec<String>) {
+    for [first, second, third] in [[0x00, 0x00, 0x00], [0x40, 0x01, 0x00]] {
+        let word = u32::from_le_bytes([first, second, third, 0]);
+        let check = header::check_byte_counted(first, second, third);
+        lines.push(format!("check byte of the header word {word}: {check:02X}"));
+    }
+    for bytes in [
+        [0x41, 0x01, 0x00, 0x0C],
+        [0x40, 0x01, 0x00, 0x4C],
+        [0x40, 0x01, 0x00, 0x0F],
+    ] {
+        let answer = match packet::read(&bytes) {
+            Err(refusal) => format!("! {}", refusal.number()),
+            Ok(packet) => {
+                let corrected = match packet.mended {
+                    None => "nothing corrected".into(),
+                    Some(bit) => format!("corrected bit {bit}"),
+                };
+                format!("{:02X} {} {corrected}", packet.identifier, packet.count)
+            }
+        };
+        lines.push(format!("read {}: {answer}", hex(&bytes)));
+    }
+}
+
+fn payloads(lines: &mut Vec<String>) {
+    let cases: [(&str, Format, &[u16]); 2] = [
+        ("RAW10 of 3FF, 0, 0, 1", Format::Raw10, &[0x3FF, 0, 0, 1]),
+        ("RAW12 of ABC, 123", Format::Raw12, &[0xABC, 0x123]),
+    ];
+    for (name, format, line) in cases {
+        let mut buffer = [0; 8];
+        let length = pixels::payload_length(format, line.len());
+        pixels::pack(format, line, &mut buffer[..length]);
+        lines.push(format!(
+            "{name}: {length} bytes, with the rest of 8: {}",
+            hex(&buffer)
+        ));
+    }
+    for vector in [FIRST_VECTOR, SECOND_VECTOR] {
+        let sum = checksum::bit_by_bit(&vector);
+        lines.push(format!("checksum of the standard's vector: {sum:04X}"));
+    }
+}
+
+/// A line of so many equal pixels, on a hub whose port 0 forwards with this data identifier.
+fn line(format: Format, identifier: u8, width: usize, pixel: u16) -> String {
+    let (register, bits) = match format {
+        Format::Raw10 => (0x70, 10),
+        Format::Raw12 => (0x71, 12),
+    };
+    let hub = hub(&[(0x4C, 0x01), (register, identifier), (0x20, 0x00)]);
+    let (registers, mut frames) = (hub.registers, hub.frames);
+    let mut buffer = [0; 6150];
+    let sent = frames
+        .start(&registers, 0, bits, &mut buffer, 0)
+        .and_then(|_| frames.line(&registers, 0, &vec![pixel; width], &mut buffer, 0));
+    match sent {
+        Err(refusal) => format!("! {}", refusal.number()),
+        Ok(Outcome::Dropped) => "dropped".into(),
+        Ok(Outcome::Sent { packet, .. }) => format!("{} bytes", packet.length),
+    }
+}
+
+fn borders(lines: &mut Vec<String>) {
+    let cases = [
+        ("RAW10, width 4096", Format::Raw10, 0x2B, 4096, 0),
+        ("RAW12, width 4096", Format::Raw12, 0x2C, 4096, 0),
+        ("RAW10, width 4097", Format::Raw10, 0x2B, 4097, 0),
+        ("RAW12, width 0", Format::Raw12, 0x2C, 0, 0),
+        ("RAW10, pixel 3FF", Format::Raw10, 0x2B, 4, 0x3FF),
+        ("RAW10, pixel 400", Format::Raw10, 0x2B, 4, 0x400),
+        ("type 10", Format::Raw10, 0x10, 4, 0x3FF),
+        ("type 0F", Format::Raw10, 0x0F, 4, 0x3FF),
+    ];
+    for (name, format, identifier, width, pixel) in cases {
+        lines.push(format!(
+            "{name}: {}",
+            line(format, identifier, width, pixel)
+        ));
+    }
+}
+
+fn frame_numbers(lines: &mut Vec<String>) {
+    let hub = hub(&[(0x20, 0x00)]);
+    let (registers, mut frames) = (hub.registers, hub.frames);
+    let mut text = String::from("frame numbers after reset:");
+    for _ in 0..5 {
+        let mut buffer = [0; 4];
+        let started = frames.start(&registers, 0, 10, &mut buffer, 0);
+        let number = u16::from_le_bytes([buffer[1], buffer[2]]);
+        match started.and_then(|_| frames.end(&registers, 0, &mut buffer, 0)) {
+            Ok(_) => text += &format!(" {number}"),
+            Err(refusal) => text += &format!(" ! {}", refusal.number()),
+        }
+    }
+    lines.push(text);
+}

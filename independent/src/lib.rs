@@ -1,0 +1,24 @@
+//! A second opinion on the DS90UB964-Q1 hub: the rules of document 01 written anew, a seeded
+//! generator of traces, and a comparison of any trace player with the one written here.
+
+pub mod answer;
+pub mod cases;
+pub mod checksum;
+pub mod compare;
+pub mod coverage;
+pub mod difference;
+pub mod frames;
+pub mod generate;
+pub mod header;
+pub mod hub;
+pub mod packet;
+pub mod pixels;
+pub mod player;
+pub mod refusal;
+pub mod registers;
+pub mod rng;
+pub mod run;
+pub mod samples;
+pub mod script;
+pub mod text;
+pub mod trace;

@@ -1,0 +1,68 @@
+//! The sample traces, record by record: document 01's whole case, a four-camera weighbridge that is
+//! set up right, and the same set-up with one wrong page selection.
+
+use crate::script::Script;
+use std::io;
+use std::path::Path;
+
+/// Writes each sample into the folder, as NAME.trace.
+pub fn write_all(folder: &Path) -> io::Result<()> {
+    let samples = [
+        ("whole_case", whole_case()),
+        ("weighbridge", weighbridge(0x24)),
+        ("wrong_page", weighbridge(0x12)),
+    ];
+    for (name, script) in samples {
+        std::fs::write(folder.join(format!("{name}.trace")), script.as_bytes())?;
+    }
+    Ok(())
+}
+
+/// Document 01, "The trace and the player".
+fn whole_case() -> Script {
+    let mut script = Script::with_hub(0x3D);
+    script.write(0x4C, 0x12);
+    script.write(0x58, 0x58);
+    script.write(0x5D, 0x60);
+    script.write(0x65, 0x62);
+    script.write(0x70, 0x6B);
+    script.ask_write(0x31);
+    script.write(0x20, 0xD0);
+    script.start(1, 10);
+    script.line(1, 4, 0);
+    script.end(1);
+    script.start(4, 10);
+    script.read(0x4C);
+    script
+}
+
+/// Lane A has the cameras of ports 0 and 1, on CSI output 0; lane B those of ports 2 and 3, on
+/// output 1. In each lane the front camera has virtual channel 0 and the rear camera 1. The cameras
+/// all have the address 0x30 on their own bus, and get the addresses 0x31 to 0x34. The block for
+/// lane B's front camera has its page selection as it is given here; 0x24 is port 2.
+fn weighbridge(lane_b_front: u8) -> Script {
+    let mut script = Script::with_hub(0x3D);
+    let cameras = [
+        (0x01, 0x62, 0x2B),
+        (0x12, 0x64, 0x6B),
+        (lane_b_front, 0x66, 0x2B),
+        (0x38, 0x68, 0x6B),
+    ];
+    for (selection, alias, identifier) in cameras {
+        script.write(0x4C, selection);
+        script.write(0x58, 0x58);
+        script.write(0x5D, 0x60);
+        script.write(0x65, alias);
+        script.write(0x70, identifier);
+    }
+    script.write(0x20, 0x0C);
+    for address in 0x31..=0x34 {
+        script.ask_both(address);
+    }
+    for port in 0..4 {
+        script.start(port, 10);
+        script.line(port, 4, 0x155);
+        script.end(port);
+    }
+    script
+}

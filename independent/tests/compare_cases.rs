@@ -1,0 +1,136 @@
+//! The comparison: it passes a right player, and finds and keeps what a wrong one does.
+#![cfg(unix)]
+
+use independent::compare::{compare, Findings, Settings};
+use std::fs;
+use std::os::unix::fs::PermissionsExt;
+use std::path::{Path, PathBuf};
+use std::sync::{Mutex, MutexGuard, PoisonError};
+use std::time::Duration;
+
+const OWN: &str = env!("CARGO_BIN_EXE_independent");
+
+/// One test at a time: a script cannot be run while a process just started still holds it.
+static TURN: Mutex<()> = Mutex::new(());
+
+/// A folder of this test with a player that is a shell script around the own one.
+struct Bench {
+    folder: PathBuf,
+    _turn: MutexGuard<'static, ()>,
+}
+
+impl Bench {
+    fn new(name: &str) -> Bench {
+        let turn = TURN.lock().unwrap_or_else(PoisonError::into_inner);
+        let folder = Path::new(env!("CARGO_TARGET_TMPDIR")).join(name);
+        let _ = fs::remove_dir_all(&folder);
+        fs::create_dir_all(&folder).unwrap();
+        Bench {
+            folder,
+            _turn: turn,
+        }
+    }
+
+    fn settings(&self, script: &str) -> Settings {
+        let player = self.folder.join("player.sh");
+        let script = script.replace("OWN", OWN);
+        fs::write(&player, format!("#!/bin/sh\n{script}\n")).unwrap();
+        fs::set_permissions(&player, fs::Permissions::from_mode(0o755)).unwrap();
+        let mut settings = Settings::new(player);
+        settings.count = 60;
+        settings.keep = self.folder.join("kept");
+        settings.time_limit = Duration::from_secs(20);
+        settings
+    }
+
+    fn findings(&self, script: &str) -> Findings {
+        compare(&self.settings(script)).unwrap()
+    }
+}
+
+fn what(findings: &Findings) -> &str {
+    &findings.difference.as_ref().unwrap().what
+}
+
+#[test]
+fn a_right_player_passes_and_too_few_traces_do_not() {
+    let findings = Bench::new("right").findings("exec OWN play \"$1\"");
+    assert!(findings.difference.is_none());
+    assert_eq!(findings.traces, 60);
+    assert!(findings.summary().unwrap_err().contains("raise --count"));
+}
+
+#[test]
+fn a_changed_line_is_found_and_kept() {
+    let bench = Bench::new("changed");
+    let findings = bench.findings("OWN play \"$1\" | sed 's/^12 ! 1$/12 ! 3/'");
+    let difference = findings.difference.unwrap();
+    assert_eq!((difference.number, difference.kind), (0, "case"));
+    let expected = r#"line 12 should be "12 ! 1\n" and is "12 ! 3\n""#;
+    assert_eq!(difference.what, expected);
+    let kept = bench.folder.join("kept");
+    let name = difference.keep(&kept, 964).unwrap();
+    let file = |ending: &str| fs::read(kept.join(format!("{name}.{ending}"))).unwrap();
+    assert_eq!(file("bin"), independent::generate::whole_case());
+    assert!(file("expected.txt").ends_with(b"records 13 refused 1\n"));
+    assert_ne!(file("expected.txt"), file("actual.txt"));
+    assert!(file("stderr.txt").is_empty());
+}
+
+#[test]
+fn a_missing_last_newline_is_found() {
+    let findings = Bench::new("newline").findings("printf %s \"$(OWN play \"$1\")\"");
+    assert!(what(&findings).starts_with("line 14 should be"));
+}
+
+#[test]
+fn missing_output_is_found() {
+    let findings = Bench::new("silent").findings("exit 0");
+    assert!(what(&findings).ends_with("and is missing"));
+}
+
+#[test]
+fn words_on_standard_error_are_found() {
+    let findings = Bench::new("words").findings("echo hm >&2; exec OWN play \"$1\"");
+    assert!(what(&findings).contains("standard error is not empty: \"hm\""));
+}
+
+#[test]
+fn a_failing_exit_is_found() {
+    let findings = Bench::new("exit").findings("OWN play \"$1\"; exit 3");
+    assert!(what(&findings).contains("exit status: 3"));
+}
+
+#[test]
+fn a_player_that_takes_too_long_is_ended() {
+    let bench = Bench::new("endless");
+    let mut settings = bench.settings("exec sleep 3");
+    settings.time_limit = Duration::from_millis(300);
+    let findings = compare(&settings).unwrap();
+    assert!(what(&findings).contains("did not come to an end"));
+}
+
+#[test]
+fn a_player_that_closes_its_outputs_and_stays_is_ended() {
+    let bench = Bench::new("staying");
+    let mut settings = bench.settings("OWN play \"$1\"; exec sleep 3 >&- 2>&-");
+    settings.time_limit = Duration::from_millis(300);
+    let findings = compare(&settings).unwrap();
+    assert!(what(&findings).contains("did not come to an end"));
+}
+
+#[test]
+fn a_player_that_prints_far_too_much_is_ended() {
+    let too_much = "head -c 300000 /dev/zero";
+    let findings = Bench::new("chatty").findings(too_much);
+    assert!(what(&findings).contains("did not stop printing"));
+    let findings = Bench::new("complaining").findings(&format!("{too_much} >&2"));
+    assert!(what(&findings).contains("did not stop printing"));
+}
+
+#[test]
+fn a_player_that_is_not_there_is_told() {
+    let settings = Settings::new(PathBuf::from("/no/such/player"));
+    let error = compare(&settings).err().unwrap().to_string();
+    assert!(error.starts_with("cannot run the player /no/such/player"));
+}
