@@ -5,7 +5,12 @@ const POLYNOMIAL: u16 = 0x8408;
 const START: u16 = 0xFFFF;
 
 pub fn bit_by_bit(bytes: &[u8]) -> u16 {
-    let mut crc = START;
+    fed(START, bytes)
+}
+
+/// The running checksum after the next bytes.
+pub fn fed(crc: u16, bytes: &[u8]) -> u16 {
+    let mut crc = crc;
     for &byte in bytes {
         for bit in 0..8 {
             let fed = u16::from(byte >> bit & 1);

@@ -7,7 +7,7 @@ use crate::registers::{RegisterFile, PORTS, RAW10_ID, RAW12_ID};
 
 const FRAME_START: u8 = 0x00;
 const FRAME_END: u8 = 0x01;
-const FIRST_LONG_TYPE: u8 = 0x10;
+pub const FIRST_LONG_TYPE: u8 = 0x10;
 pub const LARGEST_WIDTH: usize = 4096;
 
 #[derive(Clone, Copy, Debug, PartialEq, Eq)]

@@ -1,5 +1,5 @@
 //! The command line: play a trace, compare a player with this package's own, answer the worked
-//! cases, write the samples, generate traces.
+//! cases, write the samples, generate traces, time the proved code.
 
 use independent::cases;
 use independent::compare::{self, Settings};
@@ -16,7 +16,7 @@ use std::process::ExitCode;
 
 const USAGE: &str = "use: independent play FILE | cases | samples FOLDER | \
 compare PLAYER [--seed S] [--count N] [--keep DIR] [--tally] | \
-generate SEED KIND OUT | generate SEED large RECORDS OUT";
+generate SEED KIND OUT | generate SEED large RECORDS OUT | bench PLAYER";
 
 /// How a command failed: called wrongly, or could not do its work. An empty text says nothing.
 enum Failure {
@@ -51,6 +51,7 @@ fn run(arguments: &[OsString]) -> Result<(), Failure> {
         ("generate", [seed, kind, records, out]) if kind == "large" => {
             generate_large(seed, records, Path::new(out))
         }
+        ("bench", [player]) => bench_player(player),
         _ => Err(Failure::Call(USAGE.into())),
     }
 }
@@ -138,6 +139,19 @@ fn settings(player: &OsString, options: &[OsString]) -> Result<(Settings, bool),
         }
     }
     Ok((settings, show_tally))
+}
+
+#[cfg(feature = "proved")]
+fn bench_player(player: &OsString) -> Result<(), Failure> {
+    let player = std::fs::canonicalize(player).unwrap_or_else(|_| PathBuf::from(player));
+    let benched = independent::bench::run(&player, &mut std::io::stdout());
+    benched.map_err(|error| Failure::Work(error.to_string()))
+}
+
+#[cfg(not(feature = "proved"))]
+fn bench_player(_: &OsString) -> Result<(), Failure> {
+    let text = "bench times the proved functions: build with --features proved";
+    Err(Failure::Call(text.into()))
 }
 
 fn generate_one(seed: &OsString, kind: &OsString, out: &Path) -> Result<(), Failure> {

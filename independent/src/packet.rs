@@ -46,7 +46,7 @@ pub fn write_line(
 }
 
 /// The part of the buffer the packet goes to, or refusal 8.
-fn room(buffer: &mut [u8], place: usize, length: usize) -> Result<&mut [u8], Refusal> {
+pub(crate) fn room(buffer: &mut [u8], place: usize, length: usize) -> Result<&mut [u8], Refusal> {
     let free = buffer.get_mut(place..).ok_or(Refusal::BufferTooSmall)?;
     free.get_mut(..length).ok_or(Refusal::BufferTooSmall)
 }

@@ -1,1 +1,5 @@
-pub mod ByteAtOnce
+pub mod Linear
+pub mod Shifts
+pub mod Quotient
+pub mod Words
+pub mod Windows

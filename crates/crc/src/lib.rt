@@ -1,321 +1,140 @@
-// The checksum (CRC) of a CSI-2 payload, a byte a step by a table.
+// The checksum (CRC) of a CSI-2 payload, sixteen bytes a step. It needs no table: the polynomial has four terms, so many shifts
+// of the register at once are a few shifts and sums of whole words. (A constant array is stored anew by each call that reads it.)
 ghost use mathlib.Core.Path.{_≡_};
-ghost use Rattle.laws.specs.Tables.{tabulate};
+ghost use Prim.Native.Nat.{_+_, _≤_, _<_};
+ghost use lib.ListN.{length};
 ghost use Rattle.crc.specs.Checksum.{crcFrom, crcOf};
-ghost use Rattle.crc.specs.ByteShifts.{shifts};
+ghost use Rattle.crc.specs.WideRegister.{shifts, Holds, afterWord, afterWindow, SumOfFirst};
 
-// What eight shifts make of each low byte of the register.
-const SHIFTED: [u16; 256] = [
-    // 0x00
-    0x0000,
-    0x1189,
-    0x2312,
-    0x329B,
-    0x4624,
-    0x57AD,
-    0x6536,
-    0x74BF,
-    // 0x08
-    0x8C48,
-    0x9DC1,
-    0xAF5A,
-    0xBED3,
-    0xCA6C,
-    0xDBE5,
-    0xE97E,
-    0xF8F7,
-    // 0x10
-    0x1081,
-    0x0108,
-    0x3393,
-    0x221A,
-    0x56A5,
-    0x472C,
-    0x75B7,
-    0x643E,
-    // 0x18
-    0x9CC9,
-    0x8D40,
-    0xBFDB,
-    0xAE52,
-    0xDAED,
-    0xCB64,
-    0xF9FF,
-    0xE876,
-    // 0x20
-    0x2102,
-    0x308B,
-    0x0210,
-    0x1399,
-    0x6726,
-    0x76AF,
-    0x4434,
-    0x55BD,
-    // 0x28
-    0xAD4A,
-    0xBCC3,
-    0x8E58,
-    0x9FD1,
-    0xEB6E,
-    0xFAE7,
-    0xC87C,
-    0xD9F5,
-    // 0x30
-    0x3183,
-    0x200A,
-    0x1291,
-    0x0318,
-    0x77A7,
-    0x662E,
-    0x54B5,
-    0x453C,
-    // 0x38
-    0xBDCB,
-    0xAC42,
-    0x9ED9,
-    0x8F50,
-    0xFBEF,
-    0xEA66,
-    0xD8FD,
-    0xC974,
-    // 0x40
-    0x4204,
-    0x538D,
-    0x6116,
-    0x709F,
-    0x0420,
-    0x15A9,
-    0x2732,
-    0x36BB,
-    // 0x48
-    0xCE4C,
-    0xDFC5,
-    0xED5E,
-    0xFCD7,
-    0x8868,
-    0x99E1,
-    0xAB7A,
-    0xBAF3,
-    // 0x50
-    0x5285,
-    0x430C,
-    0x7197,
-    0x601E,
-    0x14A1,
-    0x0528,
-    0x37B3,
-    0x263A,
-    // 0x58
-    0xDECD,
-    0xCF44,
-    0xFDDF,
-    0xEC56,
-    0x98E9,
-    0x8960,
-    0xBBFB,
-    0xAA72,
-    // 0x60
-    0x6306,
-    0x728F,
-    0x4014,
-    0x519D,
-    0x2522,
-    0x34AB,
-    0x0630,
-    0x17B9,
-    // 0x68
-    0xEF4E,
-    0xFEC7,
-    0xCC5C,
-    0xDDD5,
-    0xA96A,
-    0xB8E3,
-    0x8A78,
-    0x9BF1,
-    // 0x70
-    0x7387,
-    0x620E,
-    0x5095,
-    0x411C,
-    0x35A3,
-    0x242A,
-    0x16B1,
-    0x0738,
-    // 0x78
-    0xFFCF,
-    0xEE46,
-    0xDCDD,
-    0xCD54,
-    0xB9EB,
-    0xA862,
-    0x9AF9,
-    0x8B70,
-    // 0x80
-    0x8408,
-    0x9581,
-    0xA71A,
-    0xB693,
-    0xC22C,
-    0xD3A5,
-    0xE13E,
-    0xF0B7,
-    // 0x88
-    0x0840,
-    0x19C9,
-    0x2B52,
-    0x3ADB,
-    0x4E64,
-    0x5FED,
-    0x6D76,
-    0x7CFF,
-    // 0x90
-    0x9489,
-    0x8500,
-    0xB79B,
-    0xA612,
-    0xD2AD,
-    0xC324,
-    0xF1BF,
-    0xE036,
-    // 0x98
-    0x18C1,
-    0x0948,
-    0x3BD3,
-    0x2A5A,
-    0x5EE5,
-    0x4F6C,
-    0x7DF7,
-    0x6C7E,
-    // 0xA0
-    0xA50A,
-    0xB483,
-    0x8618,
-    0x9791,
-    0xE32E,
-    0xF2A7,
-    0xC03C,
-    0xD1B5,
-    // 0xA8
-    0x2942,
-    0x38CB,
-    0x0A50,
-    0x1BD9,
-    0x6F66,
-    0x7EEF,
-    0x4C74,
-    0x5DFD,
-    // 0xB0
-    0xB58B,
-    0xA402,
-    0x9699,
-    0x8710,
-    0xF3AF,
-    0xE226,
-    0xD0BD,
-    0xC134,
-    // 0xB8
-    0x39C3,
-    0x284A,
-    0x1AD1,
-    0x0B58,
-    0x7FE7,
-    0x6E6E,
-    0x5CF5,
-    0x4D7C,
-    // 0xC0
-    0xC60C,
-    0xD785,
-    0xE51E,
-    0xF497,
-    0x8028,
-    0x91A1,
-    0xA33A,
-    0xB2B3,
-    // 0xC8
-    0x4A44,
-    0x5BCD,
-    0x6956,
-    0x78DF,
-    0x0C60,
-    0x1DE9,
-    0x2F72,
-    0x3EFB,
-    // 0xD0
-    0xD68D,
-    0xC704,
-    0xF59F,
-    0xE416,
-    0x90A9,
-    0x8120,
-    0xB3BB,
-    0xA232,
-    // 0xD8
-    0x5AC5,
-    0x4B4C,
-    0x79D7,
-    0x685E,
-    0x1CE1,
-    0x0D68,
-    0x3FF3,
-    0x2E7A,
-    // 0xE0
-    0xE70E,
-    0xF687,
-    0xC41C,
-    0xD595,
-    0xA12A,
-    0xB0A3,
-    0x8238,
-    0x93B1,
-    // 0xE8
-    0x6B46,
-    0x7ACF,
-    0x4854,
-    0x59DD,
-    0x2D62,
-    0x3CEB,
-    0x0E70,
-    0x1FF9,
-    // 0xF0
-    0xF78F,
-    0xE606,
-    0xD49D,
-    0xC514,
-    0xB1AB,
-    0xA022,
-    0x92B9,
-    0x8330,
-    // 0xF8
-    0x7BC7,
-    0x6A4E,
-    0x58D5,
-    0x495C,
-    0x3DE3,
-    0x2C6A,
-    0x1EF1,
-    0x0F78,
-];
+// Four words that stand for the bytes so far: the register after those bytes is the one after these words, from 0.
+struct Window {
+    first: u64,
+    second: u64,
+    third: u64,
+    fourth: u64,
+}
 
-// The table, with its rule.
-fn shift_table() -> [u16; 256]
-    ensures { λ r. ⌜ r ≡ tabulate (shifts 8) 256 ⌝ }
+// The running checksum of the bytes before `at`.
+struct Progress {
+    sum: u16,
+    at: usize,
+}
+
+// What 64 shifts make of a register of 64 bits. The polynomial, low bit first, is 1 + s, with bits 4, 11 and 16 in s. The first
+// four lines divide by it: times 1 + s, 1 + s^2, 1 + s^4 and 1 + s^8. The last is what the quotient times s has above 64 bits.
+fn shifted(register: u64) -> u16
+    ensures { λ r. ⌜ r ≡ shifts 64 register ⌝ }
 {
-    SHIFTED
+    let a = register ^ (register << 4) ^ (register << 11) ^ (register << 16);
+    let b = a ^ (a << 8) ^ (a << 22) ^ (a << 32);
+    let c = b ^ (b << 16) ^ (b << 44);
+    let quotient = c ^ (c << 32);
+    (((quotient >> 60) ^ (quotient >> 53) ^ (quotient >> 48)) % 65536) as u16
+}
+
+// The register after a word.
+fn after_word(register: u16, x: u64) -> u16
+    ensures { λ r. ⌜ r ≡ afterWord register x ⌝ }
+{
+    shifted((register as u64) ^ x)
+}
+
+// The n bytes from `at` on as a number, low byte first.
+fn word(bytes: &[u8], at: usize, n: usize) -> u64
+    requires { ⌜ (at + n ≤ length (now bytes)) × (n ≤ 8) ⌝ }
+    ensures { λ r. ⌜ Holds (now (bytes .entry)) at n r ⌝ }
+{
+    let mut x: u64 = 0;
+    let mut i = n;
+    while 0 < i {
+        i -= 1;
+        x = (x << 8) ^ (bytes[at + i] as u64);
+    }
+    x
+}
+
+// The window after one word more: the polynomial to the power 16 has bits 0, 64, 176 and 256, so the first word leaves the window
+// where it is added again 64, 176 and 256 bits later.
+fn slide(window: Window, next: u64) -> Window
+    ensures { λ r. ⌜ afterWindow r ≡ afterWord (afterWindow window) next ⌝ }
+{
+    Window {
+        first: window.second ^ window.first,
+        second: window.third ^ (window.first << 48),
+        third: window.fourth ^ (window.first >> 16),
+        fourth: next ^ window.first,
+    }
+}
+
+// The register that a window stands for.
+fn settle(window: Window) -> u16
+    ensures { λ r. ⌜ r ≡ afterWindow window ⌝ }
+{
+    let one = shifted(window.first);
+    let two = after_word(one, window.second);
+    let three = after_word(two, window.third);
+    after_word(three, window.fourth)
+}
+
+// The running checksum `crc` after 32 of the next bytes and as many sixteens as follow them; after none where there are fewer.
+fn feed_blocks(crc: u16, bytes: &[u8]) -> Progress
+    ensures { λ r. ⌜ SumOfFirst crc (now (bytes .entry)) (r .at) (r .sum) ⌝ }
+{
+    if bytes.len() < 32 {
+        return Progress { sum: crc, at: 0 };
+    }
+    let mut window = Window {
+        first: (crc as u64) ^ word(bytes, 0, 8),
+        second: word(bytes, 8, 8),
+        third: word(bytes, 16, 8),
+        fourth: word(bytes, 24, 8),
+    };
+    let mut i = 32;
+    while 16 <= bytes.len() - i {
+        let low = word(bytes, i, 8);
+        let high = word(bytes, i + 8, 8);
+        window = slide(slide(window, low), high);
+        i += 16;
+    }
+    Progress {
+        sum: settle(window),
+        at: i,
+    }
+}
+
+// The running checksum `crc` after the next bytes, fewer than eight, which are moved by the top bits of a word.
+fn feed_rest(crc: u16, bytes: &[u8]) -> u16
+    requires { ⌜ length (now bytes) < 8 ⌝ }
+    ensures { λ r. ⌜ r ≡ crcFrom crc (now (bytes .entry)) ⌝ }
+{
+    let n = bytes.len();
+    if n == 0 {
+        return crc;
+    }
+    let x = (crc as u64) ^ word(bytes, 0, n);
+    shifted(x << (64 - 8 * n)) ^ (((crc as u64) >> (8 * n)) as u16)
+}
+
+// The running checksum `crc` after the next bytes, eight a step.
+fn feed_words(crc: u16, bytes: &[u8]) -> u16
+    ensures { λ r. ⌜ r ≡ crcFrom crc (now (bytes .entry)) ⌝ }
+{
+    let mut sum = crc;
+    let mut i = 0;
+    while 8 <= bytes.len() - i {
+        sum = after_word(sum, word(bytes, i, 8));
+        i += 8;
+    }
+    feed_rest(sum, &bytes[i..])
 }
 
 // The running checksum `crc` after the next bytes.
 pub fn feed(crc: u16, bytes: &[u8]) -> u16
     ensures { λ r. ⌜ r ≡ crcFrom crc (now (bytes .entry)) ⌝ }
 {
-    let table = shift_table();
-    let mut sum = crc;
-    let mut i = 0;
-    while i < bytes.len() {
-        let low = ((sum ^ (bytes[i] as u16)) % 256) as usize;
-        sum = table[low] ^ (sum / 256);
-        i += 1;
-    }
-    sum
+    let done = feed_blocks(crc, bytes);
+    let at = done.at;
+    feed_words(done.sum, &bytes[at..])
 }
 
 // The checksum of a payload.

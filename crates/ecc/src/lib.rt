@@ -91,7 +91,7 @@ fn column(i: u8) -> u8
     1 << (i - 24)
 }
 
-// Mends the one bit that makes the difference `syndrome`.
+// Corrects the one bit that makes the difference `syndrome`.
 fn correct_bit(header: u32, syndrome: u8) -> Correction
     requires { ⌜ syndrome ≡ syndromeOf header ⌝ }
     ensures { λ r. ⌜ correctionReply r ≡ correctFrom header 0 32 ⌝ }

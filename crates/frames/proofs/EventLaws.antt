@@ -27,7 +27,7 @@ use Rattle.csi2.specs.Writers.{ifPixels, shortReply, shortAnswerReply, packetRe
 use Rattle.frames.specs.declared.sync.SyncAnswer.{SyncAnswer}
 use Rattle.frames.specs.declared.sync.SyncAnswer.the-variants.{NoRoom, Dropped, Sent}
 use Rattle.frames.specs.declared.port.Exit.{Exit}
-use Rattle.frames.specs.Events.{Event, startEvent, lineEvent, endEvent, lastFrame, nextNumber, startNumber, identifierAt, portRoute, Outcome, eventDropped, eventSent, sentOn, forwardOn, unlessRefused, startWith, lineWith, endWith, eventReply, bufferAfter, movedOn, openedWith, closedWith, hubAfter, RefusalChangesNothing, EventsKeepRegisters, Told, wasDropped, wasSent, toldOf}
+use Rattle.frames.specs.Events.{Event, startEvent, lineEvent, endEvent, lastFrame, nextNumber, startNumber, identifierAt, portRoute, Outcome, eventDropped, eventSent, sentOn, forwardOn, unlessRefused, startWith, lineWith, endWith, eventReply, bufferAfter, stateAfterEvent, openedWith, closedWith, hubAfter, RefusalChangesNothing, EventsKeepRegisters, Told, wasDropped, wasSent, toldOf}
 use Rattle.frames.specs.Exits.{exitOf, exitReply, syncAnswerReply, forwardTold, Answered}
 
 -- the next number by the source's tests
@@ -266,7 +266,7 @@ closed-registers hub port NoFrame = refl
 closed-registers hub port (Closed format number) = refl
 closed-registers hub port (Open format number) = refl
 
-moved-registers : (hub : Hub) (event : Event) → movedOn hub event .registers ≡ hub .registers
+moved-registers : (hub : Hub) (event : Event) → stateAfterEvent hub event .registers ≡ hub .registers
 moved-registers hub (startEvent port bits) = opened-registers hub port (formatOf bits)
 moved-registers hub (lineEvent port pixels) = refl
 moved-registers hub (endEvent port) = closed-registers hub port (lastFrame hub port)

@@ -46,27 +46,28 @@ nextNumber largest old = cond (eqb largest 0) 0 (cond (leb (old + 1) largest) (o
 abbrev pub startNumber : Hub → ℕ → ℕ
 startNumber hub port = nextNumber (largestNumber (hub .registers)) (frameNumber (lastFrame hub port))
 
--- "The data identifier is taken at each event from 0x70 or 0x71 by the frame's format"
-abbrev pub identifierAt : Hub → ℕ → Format → ℕ
-identifierAt hub port Raw10 = pageAt (hub .registers .pages) port RAW10-ID
-identifierAt hub port Raw12 = pageAt (hub .registers .pages) port RAW12-ID
-
 -- What becomes of an event that is not refused: dropped, or the packet that leaves on a CSI output.
 pub data Outcome : Type 0 where
   eventDropped : Outcome
   eventSent : (csi : ℕ) (packet : List ℕ) → Outcome
 
--- "Forwarding of port p is off [...]: the event is then "dropped" [...] Otherwise it leaves on CSI output 0 or 1"; "Being dropped is decided before 7 and 8."
+-- the packet of an event that leaves on a CSI output, or why there is none
 abbrev pub sentOn : ℕ → Reply (List ℕ) → Reply Outcome
 sentOn csi (refused number) = refused number
 sentOn csi (given packet) = given (eventSent csi packet)
 
+-- "Forwarding of port p is off [...]: the event is then "dropped" [...] Otherwise it leaves on CSI output 0 or 1"; "Being dropped is decided before 7 and 8."
 abbrev pub forwardOn : PortRoute → Reply (List ℕ) → Reply Outcome
 forwardOn off packet = given eventDropped
 forwardOn (output csi raw10 raw12) packet = sentOn csi packet
 
 abbrev pub portRoute : Hub → ℕ → PortRoute
 portRoute hub port = forwardedBy (sharedAt (hub .registers) FWD-CTL1) (hub .registers .pages) port
+
+-- "The data identifier is taken at each event from 0x70 or 0x71 by the frame's format"
+abbrev pub identifierAt : Hub → ℕ → Format → ℕ
+identifierAt hub port Raw10 = pageAt (hub .registers .pages) port RAW10-ID
+identifierAt hub port Raw12 = pageAt (hub .registers .pages) port RAW12-ID
 
 -- a frame start, by its format; 4: "start on an open port"
 unfoldable pub startWith : Hub → ℕ → Reply Format → ℕ → ℕ → Reply Outcome
@@ -75,7 +76,7 @@ startWith hub port (given format) size place =
     cond (isOpen (lastFrame hub port)) (refused 4)
     (forwardOn (portRoute hub port) (shortReply (identifierAt hub port format) FrameStart (startNumber hub port) size place))
 
--- a line, by the port's last frame; 4: "line or end on a closed one"
+-- a line, by the port's last frame; 4: "line or end on a closed one"; of the data identifier "a line uses it whole"
 unfoldable pub lineWith : Hub → ℕ → List ℕ → LastFrame → ℕ → ℕ → Reply Outcome
 lineWith hub port pixels NoFrame size place = refused 4
 lineWith hub port pixels (Closed format number) size place = refused 4
@@ -110,10 +111,10 @@ closedWith hub port NoFrame = hub
 closedWith hub port (Closed format number) = hub
 closedWith hub port (Open format number) = withFrame hub port (Closed format number)
 
-abbrev pub movedOn : Hub → Event → Hub
-movedOn hub (startEvent port bits) = openedWith hub port (formatOf bits)
-movedOn hub (lineEvent port pixels) = hub
-movedOn hub (endEvent port) = closedWith hub port (lastFrame hub port)
+abbrev pub stateAfterEvent : Hub → Event → Hub
+stateAfterEvent hub (startEvent port bits) = openedWith hub port (formatOf bits)
+stateAfterEvent hub (lineEvent port pixels) = hub
+stateAfterEvent hub (endEvent port) = closedWith hub port (lastFrame hub port)
 
 -- The hub and the lent buffer after an event: "A refusal returns its number alone, with no part of the bytes; all state and buffers stay."
 abbrev pub unlessRefused : Hub → Hub → Reply Outcome → Hub
@@ -121,8 +122,9 @@ unlessRefused hub moved (refused number) = hub
 unlessRefused hub moved (given outcome) = moved
 
 abbrev pub hubAfter : Hub → Event → Reply Outcome → Hub
-hubAfter hub event reply = unlessRefused hub (movedOn hub event) reply
+hubAfter hub event reply = unlessRefused hub (stateAfterEvent hub event) reply
 
+-- dropped: "nothing is written"
 abbrev pub bufferAfter : List ℕ → ℕ → Reply Outcome → List ℕ
 bufferAfter buffer place (refused number) = buffer
 bufferAfter buffer place (given eventDropped) = buffer

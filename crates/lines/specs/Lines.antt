@@ -16,8 +16,8 @@ use Rattle.hub.specs.declared.translation.PortDevice.{PortDevice}
 use Rattle.hub.specs.Translation.{Addressed, theHub, nobody, found, writeReply, readReply}
 use Rattle.frames.specs.Events.{Outcome, eventDropped, eventSent, Told, wasDropped, wasSent, startAnswerReply, lineAnswerReply, endAnswerReply}
 use Rattle.lines.specs.declared.event.Header.{Header}
-use Rattle.lines.specs.declared.Line.{Line}
-use Rattle.lines.specs.declared.Line.the-variants.{NoRecord, Hub, Write, Read, WriteQuestion, ReadQuestion, Start, FrameLine, End}
+use Rattle.lines.specs.declared.PrintedLine.{PrintedLine}
+use Rattle.lines.specs.declared.PrintedLine.the-variants.{NoRecord, Hub, Write, Read, WriteQuestion, ReadQuestion, Start, FrameLine, End}
 use Rattle.lines.specs.declared.TextAnswer.{TextAnswer}
 use Rattle.lines.specs.declared.TextAnswer.the-variants.{NoRoom, Next}
 use Rattle.lines.specs.Texts.{ascii, hexByte, hexBytes, decimal}
@@ -88,26 +88,29 @@ hubLine address AddressOutOfRange = refused 2
 hubLine address Created = given (hubFields address)
 
 abbrev pub headerList : Header → List ℕ
-headerList header = header .b0 ∷ header .b1 ∷ header .b2 ∷ header .b3 ∷ []
+headerList header = header .«data_identifier» ∷ header .«word_count_low» ∷ header .«word_count_high» ∷ header .«check_byte» ∷ []
 
 abbrev pub toldFields : List ℕ → ℕ → List ℕ → Told → List ℕ
 toldFields letter port header wasDropped = droppedFields letter port
 toldFields letter port header (wasSent csi count) = sentFields letter port csi header
 
-unfoldable pub lineReply : Line → Reply (List ℕ)
-lineReply NoRecord = refused 13
-lineReply (Hub address answer) = hubLine address answer
-lineReply (Write offset count) = given (writeFields offset count)
-lineReply (Read offset value) = given (readFields offset value)
-lineReply (WriteQuestion address answer) = onReply (writeQuestionFields address) (writeReply answer)
-lineReply (ReadQuestion address answer) = onReply (readQuestionFields address) (readReply answer)
-lineReply (Start port answer header) = onReply (toldFields (ascii "S") port (headerList header)) (startAnswerReply answer)
-lineReply (FrameLine port answer header) = onReply (toldFields (ascii "L") port (headerList header)) (lineAnswerReply answer)
-lineReply (End port answer header) = onReply (toldFields (ascii "E") port (headerList header)) (endAnswerReply answer)
+unfoldable pub printedReply : PrintedLine → Reply (List ℕ)
+printedReply NoRecord = refused 13
+printedReply (Hub address answer) = hubLine address answer
+printedReply (Write offset count) = given (writeFields offset count)
+printedReply (Read offset value) = given (readFields offset value)
+printedReply (WriteQuestion address answer) = onReply (writeQuestionFields address) (writeReply answer)
+printedReply (ReadQuestion address answer) = onReply (readQuestionFields address) (readReply answer)
+printedReply (Start port answer header) = onReply (toldFields (ascii "S") port (headerList header)) (startAnswerReply answer)
+printedReply (FrameLine port answer header) = onReply (toldFields (ascii "L") port (headerList header)) (lineAnswerReply answer)
+printedReply (End port answer header) = onReply (toldFields (ascii "E") port (headerList header)) (endAnswerReply answer)
 
 -- A text goes into a lent buffer where 64 bytes are free from the place on, more than any line needs; otherwise nothing is written. (Ours: no refusal of the papers.)
+abbrev pub textRoom : ℕ
+textRoom = 64
+
 abbrev pub ifTextRoom : ℕ → ℕ → List ℕ → Option (List ℕ)
-ifTextRoom size at text = cond (leb (at + 64) size) (some text) none
+ifTextRoom size at text = cond (leb (at + textRoom) size) (some text) none
 
 abbrev pub afterText : List ℕ → ℕ → Option (List ℕ) → List ℕ
 afterText buffer at none = buffer

@@ -4,7 +4,7 @@ ghost use Prim.Native.Nat.{_+_, _≤_};
 ghost use lib.Dec.{leb};
 ghost use lib.ListN.{length};
 ghost use Rattle.laws.specs.Reply.{isRefused};
-ghost use Rattle.lines.specs.Lines.{fieldsText, lineText, countsText, lineReply, ifTextRoom, afterText, nextPlace, textReply};
+ghost use Rattle.lines.specs.Lines.{fieldsText, lineText, countsText, printedReply, textRoom, ifTextRoom, afterText, nextPlace, textReply};
 ghost use Rattle.lines.specs.Putting.{Put};
 use crate::event::Header;
 use frames::end::EndAnswer;
@@ -20,9 +20,10 @@ mod refusal;
 mod refused;
 mod register;
 mod text;
+mod told;
 
 // What a record was answered.
-pub enum Line {
+pub enum PrintedLine {
     NoRecord,
     Hub {
         address: u8,
@@ -69,7 +70,7 @@ pub enum TextAnswer {
 
 // Whether 64 bytes are free from the place on.
 pub fn has_text_room(size: usize, at: usize) -> bool
-    ensures { λ r. ⌜ r ≡ leb (at + 64) size ⌝ }
+    ensures { λ r. ⌜ r ≡ leb (at + textRoom) size ⌝ }
 {
     if size < 64 {
         return false;
@@ -78,42 +79,42 @@ pub fn has_text_room(size: usize, at: usize) -> bool
 }
 
 // What stands behind the number in a line.
-fn put_fields(out: &mut [u8], at: usize, line: Line) -> usize
+fn put_fields(out: &mut [u8], at: usize, line: PrintedLine) -> usize
     requires { ⌜ at + 38 ≤ length (now out) ⌝ }
-    ensures { λ r. ⌜ Put 38 (now (out .entry)) at (fieldsText (lineReply line)) (now (out .exit)) r ⌝ }
+    ensures { λ r. ⌜ Put 38 (now (out .entry)) at (fieldsText (printedReply line)) (now (out .exit)) r ⌝ }
 {
     match line {
-        Line::NoRecord => refusal::put_refusal(out, at, 13),
-        Line::Hub { address, answer } => register::put_hub(out, at, address, answer),
-        Line::Write { offset, count } => register::put_write(out, at, offset, count),
-        Line::Read { offset, value } => register::put_read(out, at, offset, value),
-        Line::WriteQuestion { address, answer } => {
+        PrintedLine::NoRecord => refusal::put_refusal(out, at, 13),
+        PrintedLine::Hub { address, answer } => register::put_hub(out, at, address, answer),
+        PrintedLine::Write { offset, count } => register::put_write(out, at, offset, count),
+        PrintedLine::Read { offset, value } => register::put_read(out, at, offset, value),
+        PrintedLine::WriteQuestion { address, answer } => {
             question::put_write_question(out, at, address, answer)
         }
-        Line::ReadQuestion { address, answer } => {
+        PrintedLine::ReadQuestion { address, answer } => {
             question::put_read_question(out, at, address, answer)
         }
-        Line::Start {
+        PrintedLine::Start {
             port,
             answer,
             header,
-        } => event::put_start(out, at, port, answer, header),
-        Line::FrameLine {
+        } => event::put_event(out, at, b"S", port, told::of_start(answer), header),
+        PrintedLine::FrameLine {
             port,
             answer,
             header,
-        } => event::put_frame_line(out, at, port, answer, header),
-        Line::End {
+        } => event::put_event(out, at, b"L", port, told::of_line(answer), header),
+        PrintedLine::End {
             port,
             answer,
             header,
-        } => event::put_end(out, at, port, answer, header),
+        } => event::put_event(out, at, b"E", port, told::of_end(answer), header),
     }
 }
 
-fn put_numbered(out: &mut [u8], at: usize, number: u64, line: Line) -> usize
+fn put_numbered(out: &mut [u8], at: usize, number: u64, line: PrintedLine) -> usize
     requires { ⌜ at + 60 ≤ length (now out) ⌝ }
-    ensures { λ r. ⌜ Put 60 (now (out .entry)) at (lineText number (lineReply line)) (now (out .exit)) r ⌝ }
+    ensures { λ r. ⌜ Put 60 (now (out .entry)) at (lineText number (printedReply line)) (now (out .exit)) r ⌝ }
 {
     let space = text::put_decimal(out, at, number);
     let fields = text::put_text(out, space, b" ");
@@ -122,8 +123,8 @@ fn put_numbered(out: &mut [u8], at: usize, number: u64, line: Line) -> usize
 }
 
 // Puts the line of the record with that number into the buffer from the place on, where 64 bytes are free there.
-pub fn put_line(number: u64, line: Line, out: &mut [u8], at: usize) -> TextAnswer
-    ensures { λ r. ⌜ (textReply r ≡ nextPlace at (ifTextRoom (length (now (out .entry))) at (lineText number (lineReply line)))) × (now (out .exit) ≡ afterText (now (out .entry)) at (ifTextRoom (length (now (out .entry))) at (lineText number (lineReply line)))) ⌝ }
+pub fn put_line(number: u64, line: PrintedLine, out: &mut [u8], at: usize) -> TextAnswer
+    ensures { λ r. ⌜ (textReply r ≡ nextPlace at (ifTextRoom (length (now (out .entry))) at (lineText number (printedReply line)))) × (now (out .exit) ≡ afterText (now (out .entry)) at (ifTextRoom (length (now (out .entry))) at (lineText number (printedReply line)))) ⌝ }
 {
     if !has_text_room(out.len(), at) {
         return TextAnswer::NoRoom;
@@ -153,36 +154,36 @@ pub fn put_counts(records: u64, refused: u64, out: &mut [u8], at: usize) -> Text
 }
 
 // Whether the record was refused.
-pub fn is_refused(line: Line) -> bool
-    ensures { λ r. ⌜ r ≡ isRefused (lineReply line) ⌝ }
+pub fn is_refused(line: PrintedLine) -> bool
+    ensures { λ r. ⌜ r ≡ isRefused (printedReply line) ⌝ }
 {
     match line {
-        Line::NoRecord => true,
-        Line::Hub { address, answer } => refused::hub_refused(address, answer),
-        Line::Write {
+        PrintedLine::NoRecord => true,
+        PrintedLine::Hub { address, answer } => refused::hub_refused(address, answer),
+        PrintedLine::Write {
             offset: _,
             count: _,
         } => false,
-        Line::Read {
+        PrintedLine::Read {
             offset: _,
             value: _,
         } => false,
-        Line::WriteQuestion { address: _, answer } => refused::write_refused(answer),
-        Line::ReadQuestion { address: _, answer } => refused::read_refused(answer),
-        Line::Start {
+        PrintedLine::WriteQuestion { address: _, answer } => refused::write_refused(answer),
+        PrintedLine::ReadQuestion { address: _, answer } => refused::read_refused(answer),
+        PrintedLine::Start {
             port: _,
             answer,
             header: _,
-        } => refused::start_refused(answer),
-        Line::FrameLine {
+        } => told::is_refused(told::of_start(answer)),
+        PrintedLine::FrameLine {
             port: _,
             answer,
             header: _,
-        } => refused::line_refused(answer),
-        Line::End {
+        } => told::is_refused(told::of_line(answer)),
+        PrintedLine::End {
             port: _,
             answer,
             header: _,
-        } => refused::end_refused(answer),
+        } => told::is_refused(told::of_end(answer)),
     }
 }

@@ -7,3 +7,4 @@ pub mod RestLaws
 pub mod ShownRecords
 pub mod WindowsLaws
 pub mod WindowPlays
+pub mod TurnsLaws

@@ -67,4 +67,4 @@ from-not-eight (suc n) first hub packets bytes room m =
 -- the player lends that room
 pub eight-never-occurs : EightNeverOccurs
 eight-never-occurs file m =
-    from-not-eight (length file) true (hubAt 0) (replicate packetRoom 0) file (length-replicate {A = ℕ} packetRoom 0) m
+    from-not-eight (length file) true (hubAt 0x08) (replicate packetRoom 0) file (length-replicate {A = ℕ} packetRoom 0) m

@@ -13,12 +13,12 @@ use Rattle.laws.specs.Buffers.{written}
 use Rattle.trace.specs.Records.{TraceRecord, recordOf}
 use Rattle.lines.specs.declared.TextAnswer.{TextAnswer}
 use Rattle.lines.specs.declared.TextAnswer.the-variants.{NoRoom, Next}
-use Rattle.lines.specs.Lines.{ifTextRoom, nextPlace, afterText, textReply, lineText, lineReply}
+use Rattle.lines.specs.Lines.{ifTextRoom, nextPlace, afterText, textReply, lineText, printedReply}
 use Rattle.playback.specs.declared.Session.{Session}
 use Rattle.playback.specs.declared.record.RecordPlayed.{RecordPlayed}
 use Rattle.playback.specs.Playing.{Played, playRecord, usedBy}
-use Rattle.playback.specs.Windows.{isFirst, sessionAfter, WindowState, mayPlayNext, mayPlay, playOne, playWindow}
-use Rattle.playback.specs.Contracts.{Plays, playedOf, stateOf}
+use Rattle.playback.specs.Windows.{isFirst, sessionAfter, WindowState, stateOf, mayPlayNext, mayPlay, playOne, playWindow}
+use Rattle.playback.specs.Contracts.{Plays, playedOf}
 use Rattle.playback.proofs.RestLaws.{used-inside}
 use Rattle.playback.proofs.WindowsLaws.{shown-some, one-less}
 
@@ -43,8 +43,8 @@ session-same session p q h r e = rw (h, r, e)
 pub one-played : (window : List ℕ) (before : WindowState) (left : List ℕ) (found : Reply TraceRecord) (result : RecordPlayed) (packets out : List ℕ) (taken next : ℕ) (after : Session)
     → left ≡ drop (before .used) window → found ≡ recordOf (isFirst (before .session)) left → taken ≡ usedBy left found
     → Plays (playRecord (before .session .hub) (before .packets) found) result packets → after ≡ sessionAfter (before .session) (playedOf result [])
-    → next ≡ before .at + length (lineText (after .records) (lineReply (result .line)))
-    → out ≡ written (before .out) (before .at) (lineText (after .records) (lineReply (result .line)))
+    → next ≡ before .at + length (lineText (after .records) (printedReply (result .line)))
+    → out ≡ written (before .out) (before .at) (lineText (after .records) (printedReply (result .line)))
     → stateOf (record { session = after; used = before .used + taken; next = next }) packets out ≡ playOne window before
 unfolding playOne
 one-played window before left found result packets out taken next after l f t plays a n o =

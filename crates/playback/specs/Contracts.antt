@@ -4,26 +4,20 @@ use mathlib.Core.Path.{_≡_}
 use mathlib.Core.List.{List, [], _∷_}
 use Prim.Native.Nat.{ℕ}
 use lib.ListN.{getD}
-use Rattle.lines.specs.Lines.{lineReply}
+use Rattle.lines.specs.Lines.{printedReply}
 use Rattle.playback.specs.declared.record.RecordPlayed.{RecordPlayed}
-use Rattle.playback.specs.declared.WindowPlayed.{WindowPlayed}
 use Rattle.playback.specs.Playing.{Played}
-use Rattle.playback.specs.Windows.{WindowState}
 
 -- a record was played as the definition says, and the lent packet buffer is as it says
 pub record Plays (played : Played) (result : RecordPlayed) (packets : List ℕ) : Type 0 where
   pub hub : result .hub ≡ played .hub
-  pub line : lineReply (result .line) ≡ played .reply
+  pub line : printedReply (result .line) ≡ played .reply
   pub ends : result .ends ≡ played .ends
   pub buffer : packets ≡ played .packets
 
 -- what was played, and the lent packet buffer after it, as the definition has it
 abbrev pub playedOf : RecordPlayed → List ℕ → Played
-playedOf result packets = record { hub = result .hub; reply = lineReply (result .line); packets = packets; ends = result .ends }
-
--- what came of a window, and the lent buffers after it, as the definition has it
-abbrev pub stateOf : WindowPlayed → List ℕ → List ℕ → WindowState
-stateOf played packets out = record { session = played .session; used = played .used; packets = packets; out = out; at = played .next }
+playedOf result packets = record { hub = result .hub; reply = printedReply (result .line); packets = packets; ends = result .ends }
 
 -- the four bytes at the start
 abbrev pub firstFour : List ℕ → List ℕ

@@ -22,7 +22,7 @@ pub record Played : Type 0 where
   pub packets : List ℕ
   pub ends : Bool
 
--- "Refusal 13 is tested before all others. It, or 2 in record 1, ends the run"
+-- "It, or 2 in record 1, ends the run"
 abbrev pub ending : Hub → List ℕ → ℕ → Played
 ending hub packets number = record { hub = hub; reply = refused number; packets = packets; ends = true }
 
@@ -39,6 +39,7 @@ playEvent hub packets letter port event =
     let reply = eventReply hub event (length packets) 0 in
     answering (hubAfter hub event reply) (bufferAfter packets 0 reply) (onReply (eventFields letter port) reply)
 
+-- what the bytes hold is played; "Refusal 13 is tested before all others."
 unfoldable pub playRecord : Hub → List ℕ → Reply TraceRecord → Played
 playRecord hub packets (refused number) = ending hub packets number
 playRecord hub packets (given (hubRecord address)) = playHub hub packets address (creationOf address)
@@ -71,7 +72,7 @@ packetRoom = 6150
 
 -- the answers to the records of a file: no record has no bytes, so there are at most as many as bytes. (Before record 1 there is no hub; the one here is not asked.)
 abbrev pub answersOf : List ℕ → List (Reply (List ℕ))
-answersOf file = answersFrom (length file) true (hubAt 0) (replicate packetRoom 0) file
+answersOf file = answersFrom (length file) true (hubAt 0x08) (replicate packetRoom 0) file
 
 -- "prints one line a record: its number from 1"
 unfoldable pub linesFrom : ℕ → List (Reply (List ℕ)) → List ℕ
@@ -82,7 +83,7 @@ unfoldable pub refusedAmong : List (Reply (List ℕ)) → ℕ
 refusedAmong [] = 0
 refusedAmong (reply ∷ replies) = cond (isRefused reply) 1 0 + refusedAmong replies
 
--- "Last line: records and refused with their counts. An empty file gives only that."
+-- "Last line: records and refused with their counts. An empty file gives only that." (A count has at most 20 digits here: no file has 10 ^ 20 records.)
 abbrev pub playerText : List ℕ → List ℕ
 playerText file = linesFrom 1 (answersOf file) ++ countsText (length (answersOf file)) (refusedAmong (answersOf file))
 

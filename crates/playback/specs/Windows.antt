@@ -1,22 +1,23 @@
--- How the source plays a file in windows, and the law that makes it right: however the file is cut, what is printed is the player's text.
+-- How the source plays a file in windows, and the laws that make it right: however the file is cut, what is printed is the player's text.
 -- Assumes nothing.
 use mathlib.Core.Path.{_≡_}
 use mathlib.Core.Bool.{Bool, true, false, cond, not, _&&_}
-use mathlib.Core.List.{List, [], _++_}
+use mathlib.Core.List.{List, [], _∷_, _++_}
 use Prim.Native.Nat.{ℕ, zero, suc, _+_, _%_, _^_, _≤_, _<_}
 use lib.Dec.{eqb, leb}
-use lib.ListN.{length, drop, replicate}
+use lib.ListN.{length, take, drop, replicate}
 use Rattle.laws.specs.Reply.{isRefused}
 use Rattle.laws.specs.Buffers.{written}
 use Rattle.hub.specs.Hubs.{hubAt}
 use Rattle.trace.specs.Records.{holdsRecord, recordOf}
-use Rattle.lines.specs.Lines.{lineText, countsText}
+use Rattle.lines.specs.Lines.{lineText, countsText, textRoom}
 use Rattle.playback.specs.declared.Session.{Session}
+use Rattle.playback.specs.declared.WindowPlayed.{WindowPlayed}
 use Rattle.playback.specs.Playing.{Played, playRecord, usedBy, answersFrom, packetRoom, linesFrom, refusedAmong, playerText}
 
 -- the player before record 1
 abbrev pub newSession : Session
-newSession = record { hub = hubAt 0; records = 0; refusals = 0; ended = false }
+newSession = record { hub = hubAt 0x08; records = 0; refusals = 0; ended = false }
 
 abbrev pub isFirst : Session → Bool
 isFirst session = eqb (session .records) 0
@@ -39,10 +40,14 @@ pub record WindowState : Type 0 where
   pub out : List ℕ
   pub at : ℕ
 
+-- what came of a window, and the lent buffers after it, as the definition has it
+abbrev pub stateOf : WindowPlayed → List ℕ → List ℕ → WindowState
+stateOf played packets out = record { session = played .session; used = played .used; packets = packets; out = out; at = played .next }
+
 -- There is something to play: the run has not ended; the window holds a whole record or, at the file's end (`last`), any byte; and 64 bytes are free for a line,
 -- which has at most 52.
 abbrev pub mayPlayNext : Session → List ℕ → Bool → ℕ → ℕ → Bool
-mayPlayNext session left last size at = not (session .ended) && cond last (not (eqb (length left) 0)) (holdsRecord left) && leb (at + 64) size
+mayPlayNext session left last size at = not (session .ended) && cond last (not (eqb (length left) 0)) (holdsRecord left) && leb (at + textRoom) size
 
 unfoldable pub mayPlay : Bool → List ℕ → WindowState → Bool
 mayPlay last window state = mayPlayNext (state .session) (drop (state .used) window) last (length (state .out)) (state .at)
@@ -107,3 +112,57 @@ abbrev pub PlaysOut : Type 0
 PlaysOut =
     (n : ℕ) (last : Bool) (window : List ℕ) (before : WindowState) → length (drop (before .used) window) ≤ n
     → mayPlay last window (playWindow n last window before) ≡ false
+
+-- A turn of the program: the bytes of the file that it reads, whether they are the file's last, and the buffer that it lends for text.
+pub record Turn : Type 0 where
+  pub bytes : List ℕ
+  pub last : Bool
+  pub out : List ℕ
+
+-- The run between two turns: the session, the packet buffer, the bytes that are read and not played, and all that was printed.
+pub record Run : Type 0 where
+  pub session : Session
+  pub packets : List ℕ
+  pub left : List ℕ
+  pub printed : List ℕ
+
+abbrev pub newRun : Run
+newRun = record { session = newSession; packets = replicate packetRoom 0; left = []; printed = [] }
+
+-- the window is what is left with the new bytes behind it; it is played, and what was put into the lent buffer is printed
+unfoldable pub turned : Run → Turn → Run
+turned run turn =
+    let window = run .left ++ turn .bytes in
+    let before : WindowState = record { session = run .session; used = 0; packets = run .packets; out = turn .out; at = 0 } in
+    let after = playWindow (length window) (turn .last) window before in
+    record {
+      session = after .session;
+      packets = after .packets;
+      left = drop (after .used) window;
+      printed = run .printed ++ take (after .at) (after .out);
+    }
+
+unfoldable pub allTurned : Run → List Turn → Run
+allTurned run [] = run
+allTurned run (turn ∷ turns) = allTurned (turned run turn) turns
+
+-- the file: the bytes of the turns, and behind them those that are never read
+abbrev pub fileOf : List Turn → List ℕ → List ℕ
+fileOf [] unread = unread
+fileOf (turn ∷ turns) unread = turn .bytes ++ fileOf turns unread
+
+-- bytes are called the last only where none follow
+abbrev pub LastAreLast : List Turn → List ℕ → Type 0
+LastAreLast [] unread = Unit {0}
+LastAreLast (turn ∷ turns) unread = (turn .last ≡ true → fileOf turns unread ≡ []) × LastAreLast turns unread
+
+-- nothing is left to play: the run has ended, or no byte of the file is left
+abbrev pub Finished : Run → List ℕ → Type 0
+Finished run unread = cond (run .session .ended) true (eqb (length (run .left ++ unread)) 0) ≡ true
+
+-- However a file is cut into turns, what they print, one behind the other, and the last line are the player's text.
+abbrev pub HoweverCut : Type 0
+HoweverCut =
+    (turns : List Turn) (unread : List ℕ) → LastAreLast turns unread → length (fileOf turns unread) < 2 ^ 64
+    → let end = allTurned newRun turns in
+    Finished end unread → end .printed ++ countsText (end .session .records) (end .session .refusals) ≡ playerText (fileOf turns unread)

@@ -13,7 +13,7 @@ use frames::end;
 use frames::line;
 use frames::start;
 use hub::Hub;
-use lines::Line;
+use lines::PrintedLine;
 use lines::event::Header;
 
 // Byte `i`, and 0 past the end.
@@ -31,10 +31,10 @@ fn header_of(packets: &[u8]) -> Header
     ensures { λ r. ⌜ headerList r ≡ firstFour (now (packets .entry)) ⌝ }
 {
     Header {
-        b0: byte_at(packets, 0),
-        b1: byte_at(packets, 1),
-        b2: byte_at(packets, 2),
-        b3: byte_at(packets, 3),
+        data_identifier: byte_at(packets, 0),
+        word_count_low: byte_at(packets, 1),
+        word_count_high: byte_at(packets, 2),
+        check_byte: byte_at(packets, 3),
     }
 }
 
@@ -47,7 +47,7 @@ pub(crate) fn play_start(hub: Hub, port: u8, bits: u8, packets: &mut [u8]) -> Re
     let header = header_of(packets);
     RecordPlayed {
         hub: after,
-        line: Line::Start {
+        line: PrintedLine::Start {
             port,
             answer,
             header,
@@ -65,7 +65,7 @@ pub(crate) fn play_end(hub: Hub, port: u8, packets: &mut [u8]) -> RecordPlayed
     let header = header_of(packets);
     RecordPlayed {
         hub: after,
-        line: Line::End {
+        line: PrintedLine::End {
             port,
             answer,
             header,
@@ -81,7 +81,7 @@ fn equal_pixels(pixel: u16) -> [u16; 4097]
     [pixel; 4097]
 }
 
-// The pixels of a line; a line that is too wide is as well refused with one pixel too many.
+// How many pixels of a line are lent: a line that is too wide is as well refused with one pixel too many.
 fn lent_width(width: u16) -> usize
     ensures { λ r. ⌜ (r ≡ min width 4097) × (r ≤ 4097) ⌝ }
 {
@@ -106,7 +106,7 @@ pub(crate) fn play_line(
     let header = header_of(packets);
     RecordPlayed {
         hub,
-        line: Line::FrameLine {
+        line: PrintedLine::FrameLine {
             port,
             answer,
             header,

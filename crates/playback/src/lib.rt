@@ -2,8 +2,7 @@
 ghost use mathlib.Core.Path.{_≡_};
 ghost use Prim.Native.Nat.{_≤_};
 ghost use lib.ListN.{length};
-ghost use Rattle.playback.specs.Windows.{newSession, playWindow};
-ghost use Rattle.playback.specs.Contracts.{stateOf};
+ghost use Rattle.playback.specs.Windows.{newSession, stateOf, playWindow};
 use hub::Hub;
 
 mod event;
@@ -29,7 +28,7 @@ pub struct WindowPlayed {
 pub fn new() -> Session
     ensures { λ r. ⌜ r ≡ newSession ⌝ }
 {
-    let made = hub::new(0);
+    let made = hub::new(0x08);
     let hub = made.hub;
     Session {
         hub,

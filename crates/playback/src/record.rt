@@ -10,13 +10,13 @@ use crate::event;
 use hub::CreationAnswer;
 use hub::Hub;
 use hub::translation;
-use lines::Line;
+use lines::PrintedLine;
 use trace::FoundRecord;
 
 // The hub after a record, what the record was answered, and whether it ends the run.
 pub(crate) struct RecordPlayed {
     pub hub: Hub,
-    pub line: Line,
+    pub line: PrintedLine,
     pub ends: bool,
 }
 
@@ -29,7 +29,7 @@ fn play_hub(hub: Hub, address: u8) -> RecordPlayed
     match answer {
         CreationAnswer::AddressOutOfRange => RecordPlayed {
             hub,
-            line: Line::Hub {
+            line: PrintedLine::Hub {
                 address,
                 answer: CreationAnswer::AddressOutOfRange,
             },
@@ -37,7 +37,7 @@ fn play_hub(hub: Hub, address: u8) -> RecordPlayed
         },
         CreationAnswer::Created => RecordPlayed {
             hub: after,
-            line: Line::Hub {
+            line: PrintedLine::Hub {
                 address,
                 answer: CreationAnswer::Created,
             },
@@ -52,7 +52,7 @@ fn play_write(hub: Hub, offset: u8, values: &[u8]) -> RecordPlayed
     let after = hub::burst(hub, offset, values);
     RecordPlayed {
         hub: after,
-        line: Line::Write {
+        line: PrintedLine::Write {
             offset,
             count: values.len() as u64,
         },
@@ -66,7 +66,7 @@ fn play_read(hub: Hub, offset: u8) -> RecordPlayed
     let value = hub::read(hub, offset);
     RecordPlayed {
         hub,
-        line: Line::Read { offset, value },
+        line: PrintedLine::Read { offset, value },
         ends: false,
     }
 }
@@ -77,7 +77,7 @@ fn play_write_question(hub: Hub, address: u8) -> RecordPlayed
     let answer = translation::who_hears_write(hub, address);
     RecordPlayed {
         hub,
-        line: Line::WriteQuestion { address, answer },
+        line: PrintedLine::WriteQuestion { address, answer },
         ends: false,
     }
 }
@@ -88,7 +88,7 @@ fn play_read_question(hub: Hub, address: u8) -> RecordPlayed
     let answer = translation::who_answers_read(hub, address);
     RecordPlayed {
         hub,
-        line: Line::ReadQuestion { address, answer },
+        line: PrintedLine::ReadQuestion { address, answer },
         ends: false,
     }
 }
@@ -98,7 +98,7 @@ fn play_none(hub: Hub) -> RecordPlayed
 {
     RecordPlayed {
         hub,
-        line: Line::NoRecord,
+        line: PrintedLine::NoRecord,
         ends: true,
     }
 }
@@ -127,7 +127,7 @@ pub(crate) fn play_found(
     }
 }
 
-// The bytes that the record takes.
+// How many bytes the record takes.
 pub(crate) fn used_by(bytes: &[u8], found: FoundRecord) -> usize
     ensures { λ r. ⌜ r ≡ usedBy (now (bytes .entry)) (foundReply (now (bytes .entry)) found) ⌝ }
 {

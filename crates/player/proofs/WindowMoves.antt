@@ -1,17 +1,22 @@
 -- Laws of the bytes that a window moves to its start, and of the length of the last line.
 -- Assumes nothing.
-use mathlib.Core.Path.{_≡_, sym, ap, _∙_}
-use mathlib.Core.List.{List, _++_}
-use Prim.Native.Nat.{ℕ, _+_, _-_, _≤_, _<_}
-use native.Mathlib.Nat.{zero-add}
+use mathlib.Core.Path.{_≡_, sym, ap, ap₂, _∙_}
+use mathlib.Core.Bool.{false}
+use mathlib.Core.List.{List, [], _∷_, _++_}
+use Prim.Native.Nat.{ℕ, zero, suc, _+_, _-_, _≤_, _<_}
+use native.Mathlib.Nat.{zero-add, sub-zero, zero-sub, suc-sub-suc}
 use native.Mathlib.Omega.{arith}
 use lib.ListN.{length, take, drop, getD, set, length-drop, length-take, length-append}
-use lib.Seq.{take-all, getD-append-add, getD-take, getD-drop, length-take-le}
+use lib.Seq.{take-all, take-nil, getD-append-add, getD-take, getD-drop, length-take-le}
 use Rattle.laws.specs.Buffers.{written}
 use Rattle.lines.specs.Texts.{ascii, decimal}
 use Rattle.lines.specs.Lines.{countsText}
+use Rattle.player.specs.declared.run.Run.{Run}
+use Rattle.playback.specs.declared.WindowPlayed.{WindowPlayed}
+use Rattle.playback.specs.Windows.{WindowState, stateOf, playWindow}
+use Rattle.player.specs.Turns.{ReadOn, leftOf, Turned}
 use Rattle.playback.proofs.TextLengths.{digits-most}
-use Rattle.laws.proofs.Buffers.{written-next, length-written}
+use Rattle.laws.proofs.Buffers.{written-next, length-written, read-written}
 
 -- what stands behind the bytes that were written at the start
 unwritten : (d bytes : List ℕ) (k : ℕ) → getD (written d 0 bytes) (length bytes + k) 0 ≡ getD d (length bytes + k) 0
@@ -66,3 +71,46 @@ counts-short records refusals =
     let most = digits-most 20 records in
     let more = digits-most 20 refusals in
     omega (arith, length-append (ascii "records ") (a ++ d), length-append a d, length-append (ascii " refused ") c, length-append b (ascii "\n"))
+
+-- the part from one place to another, taken in either order
+part-either : (from to : ℕ) (l : List ℕ) → drop from (take to l) ≡ take (to - from) (drop from l)
+part-either zero to l = ap (λ (n : ℕ). take n l) (sym (sub-zero to))
+part-either (suc from) zero l = ap (λ (n : ℕ). take n (drop (suc from) l)) (sym (zero-sub (suc from)))
+part-either (suc from) (suc to) [] = sym (take-nil (suc to - suc from))
+part-either (suc from) (suc to) (x ∷ l) = part-either from to l ∙ ap (λ (n : ℕ). take n (drop from l)) (sym (suc-sub-suc to from))
+
+-- the bytes that are lent to be played
+abbrev lent : Run → List ℕ → List ℕ
+lent run window = take (run .held - 0) (drop 0 window)
+
+-- the state from which they are played
+abbrev first : Run → List ℕ → List ℕ → WindowState
+first run packets out = record { session = run .session; used = 0; packets = packets; out = out; at = 0 }
+
+-- what is left of the played bytes stands at the start of the window, and stays there when more are read
+pub turn-law : (run result : Run) (window packets out : List ℕ) (played : WindowPlayed) (packetsAfter outAfter slid windowAfter : List ℕ) (left : ℕ)
+    → run .held ≤ length window
+    → stateOf played packetsAfter outAfter ≡ playWindow (length (lent run window)) (run .last) (lent run window) (first run packets out)
+    → played .used ≤ length (lent run window) → left ≡ run .held - played .used
+    → slid ≡ written window 0 (take (run .held - played .used) (drop (played .used) window))
+    → ReadOn (record { session = played .session; held = left; last = run .last; over = false }) slid result windowAfter
+    → Turned run window packets out result windowAfter packetsAfter
+turn-law run result window packets out played packetsAfter outAfter slid windowAfter left inside e u l w read =
+    let same = ap (λ (n : ℕ). take n window) (sub-zero (run .held)) in
+    let state = e ∙ ap (λ (bytes : List ℕ). playWindow (length bytes) (run .last) bytes (first run packets out)) same in
+    let used = ap (λ (s : WindowState). s .used) state in
+    let size = length-take-le (run .held) window inside in
+    let most = ap length same in
+    let part = take (run .held - played .used) (drop (played .used) window) in
+    let behind = length-drop (played .used) window in
+    let count : length part ≡ run .held - played .used = length-take-le (run .held - played .used) (drop (played .used) window) (omega arith) in
+    let rest : leftOf run window packets out ≡ part =
+    ap (λ (n : ℕ). drop n (take (run .held) window)) (sym used) ∙ part-either (played .used) (run .held) window in
+    let all : length (leftOf run window packets out) ≡ left = ap length rest ∙ count ∙ sym l in
+    record {
+      session = read .session ∙ ap (λ (s : WindowState). s .session) state;
+      buffer = ap (λ (s : WindowState). s .packets) state;
+      left = ap (λ (n : ℕ). take n windowAfter) all ∙ read .kept ∙ ap₂ take (l ∙ sym count) w ∙ read-written window 0 part (omega arith) ∙ sym rest;
+      held = omega (arith, all, read .held);
+      inside = read .inside;
+    }

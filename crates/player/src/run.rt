@@ -5,6 +5,7 @@ ghost use Prim.Native.Nat.{_≤_};
 ghost use lib.Dec.{eqb};
 ghost use lib.ListN.{length, replicate};
 ghost use Rattle.playback.specs.Playing.{packetRoom};
+ghost use Rattle.player.specs.Turns.{ReadOn, Turned};
 use crate::window;
 use libc::STDERR_FILENO;
 use libc::STDOUT_FILENO;
@@ -70,7 +71,7 @@ fn is_done(ended: bool, last: bool, left: usize) -> bool
 // Reads the next bytes of the file behind those that the window holds, where these are few.
 fn read_on(fd: i32, path: &[u8], run: Run, window: &mut [u8]) -> Run
     requires { ⌜ run .held ≤ length (now window) ⌝ }
-    ensures { λ r. ⌜ r .held ≤ length (now (window .exit)) ⌝ }
+    ensures { λ r. ⌜ ReadOn run (now (window .entry)) r (now (window .exit)) ⌝ }
 {
     let held = run.held;
     if run.last {
@@ -105,16 +106,12 @@ fn turn(
     out: &mut [u8],
 ) -> Run
     requires { ⌜ run .held ≤ length (now window) ⌝ }
-    ensures { λ r. ⌜ r .held ≤ length (now (window .exit)) ⌝ }
+    ensures { λ r. ⌜ Turned run (now (window .entry)) (now (packets .entry)) (now (out .entry)) r (now (window .exit)) (now (packets .exit)) ⌝ }
 {
     let session = run.session;
     let held = run.held;
     let last = run.last;
     let played = playback::play_window(session, &window[0..held], last, packets, out, 0);
-    let end = played.next;
-    if !write_out(out, end) {
-        return stopped(run);
-    }
     let after = played.session;
     let left = window::slide(window, played.used, held);
     let moved = Run {
@@ -123,6 +120,9 @@ fn turn(
         last,
         over: false,
     };
+    if !write_out(out, played.next) {
+        return stopped(moved);
+    }
     if is_done(after.ended, last, left) {
         write_counts(after);
         return stopped(moved);

@@ -12,7 +12,7 @@ use lib.Seq.{length-take-le, getD-take, getD-drop, take-nil, take-all, drop-drop
 use Rattle.laws.specs.Reply.{Reply, refused, given}
 use Rattle.trace.specs.Records.{TraceRecord, writeRecord, writeQuestion, readQuestion, startRecord, lineRecord}
 use Rattle.trace.specs.Records.{ifLength, writeData, questionData, startData, lineData, kindRecord}
-use Rattle.trace.specs.Records.{kindOf, recordLength, dataOf, holdsRecord, recordOf, valuesOf}
+use Rattle.trace.specs.Records.{kindOf, recordLength, dataOf, holdsRecord, recordOf, valuesOf, LongestRecord}
 
 -- what a question asks, by its direction
 abbrev pub asked : ℕ → ℕ → Reply TraceRecord
@@ -183,3 +183,7 @@ module _ (bytes : List ℕ) where
   values-cut end e h =
       let l = length-drop 5 bytes in
       take-all (length bytes - 5) (drop 5 bytes) (omega arith) ∙ sym (take-all (end - 5) (drop 5 bytes) (omega arith)) ∙ values-whole end e
+
+-- the next record is in the longest a record can be
+pub longest-record : LongestRecord
+longest-record bytes small long = rw (le-leb 4 (length bytes) (omega arith)) (le-leb (recordLength bytes) (length bytes) (omega arith))

@@ -1,13 +1,31 @@
 -- The records of a trace: document 01, "The trace and the player", and refusal 13.
 -- Assumes nothing.
-use mathlib.Core.Bool.{Bool, cond, _&&_}
-use mathlib.Core.List.{List, [], _∷_}
-use Prim.Native.Nat.{ℕ, _+_, _*_}
+use mathlib.Core.Path.{_≡_}
+use mathlib.Core.Bool.{Bool, true, cond, _&&_}
+use mathlib.Core.List.{List}
+use Prim.Native.Nat.{ℕ, _+_, _*_, _≤_, _<_}
 use lib.Dec.{eqb, leb}
 use lib.ListN.{length, getD, take, drop}
 use Rattle.laws.specs.Reply.{Reply, refused, given}
 use Rattle.trace.specs.declared.FoundRecord.{FoundRecord}
 use Rattle.trace.specs.declared.FoundRecord.the-variants.{NoRecord, Hub, Write, Read, WriteQuestion, ReadQuestion, Start, End, Line}
+
+-- "Each record has the two-byte mark 9A 64, a kind byte, a length byte n, then n bytes."
+abbrev pub kindOf : List ℕ → ℕ
+kindOf bytes = getD bytes 2 0
+
+abbrev pub recordLength : List ℕ → ℕ
+recordLength bytes = 4 + getD bytes 3 0
+
+abbrev pub dataOf : List ℕ → List ℕ
+dataOf bytes = take (getD bytes 3 0) (drop 4 bytes)
+
+abbrev pub hasMark : List ℕ → Bool
+hasMark bytes = eqb (getD bytes 0 0) 0x9A && eqb (getD bytes 1 0) 0x64
+
+-- the bytes hold a whole record: it is not "cut short"
+abbrev pub holdsRecord : List ℕ → Bool
+holdsRecord bytes = leb 4 (length bytes) && leb (recordLength bytes) (length bytes)
 
 -- what a record asks of the hub
 pub data TraceRecord : Type 0 where
@@ -69,32 +87,16 @@ kindRecord first kind bytes =
     (cond (eqb kind 0x12) (lineData bytes)
     (refused 13)))))))
 
--- "Each record has the two-byte mark 9A 64, a kind byte, a length byte n, then n bytes."
-abbrev pub kindOf : List ℕ → ℕ
-kindOf bytes = getD bytes 2 0
-
-abbrev pub recordLength : List ℕ → ℕ
-recordLength bytes = 4 + getD bytes 3 0
-
-abbrev pub dataOf : List ℕ → List ℕ
-dataOf bytes = take (getD bytes 3 0) (drop 4 bytes)
-
-abbrev pub hasMark : List ℕ → Bool
-hasMark bytes = eqb (getD bytes 0 0) 0x9A && eqb (getD bytes 1 0) 0x64
-
--- the bytes hold a whole record: it is not "cut short"
-abbrev pub holdsRecord : List ℕ → Bool
-holdsRecord bytes = leb 4 (length bytes) && leb (recordLength bytes) (length bytes)
-
 -- The record at the start of the bytes, `first` where it is the trace's first. 13: "mark, kind, length or direction not as below, record cut short, kind 00 not
 -- first or again"
 unfoldable pub recordOf : Bool → List ℕ → Reply TraceRecord
 recordOf first bytes = cond (holdsRecord bytes && hasMark bytes) (kindRecord first (kindOf bytes) (dataOf bytes)) (refused 13)
 
--- the paper's number and values for each case of the answer; the values of a write are asked for by a question of their own
+-- the values of a write, which are asked for by a question of their own
 abbrev pub valuesOf : List ℕ → List ℕ
 valuesOf bytes = drop 1 (dataOf bytes)
 
+-- the paper's number and values for each case of the answer
 abbrev pub foundReply : List ℕ → FoundRecord → Reply TraceRecord
 foundReply bytes NoRecord = refused 13
 foundReply bytes (Hub address) = given (hubRecord address)
@@ -105,3 +107,7 @@ foundReply bytes (ReadQuestion address) = given (readQuestion address)
 foundReply bytes (Start port bits) = given (startRecord port bits)
 foundReply bytes (End port) = given (endRecord port)
 foundReply bytes (Line port width pixel) = given (lineRecord port width pixel)
+
+-- A law: no record is longer than 259 bytes, so that as many hold the next one.
+abbrev pub LongestRecord : Type 0
+LongestRecord = (bytes : List ℕ) → getD bytes 3 0 < 256 → 259 ≤ length bytes → holdsRecord bytes ≡ true

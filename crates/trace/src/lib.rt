@@ -30,7 +30,7 @@ fn four_more(n: u8) -> usize
     4 + (n as usize)
 }
 
-// The bytes of the record at the start, as its length byte says.
+// How many bytes the record at the start has by its length byte; 4 where that is missing.
 pub fn record_length(bytes: &[u8]) -> usize
     ensures { λ r. ⌜ r ≡ recordLength (now (bytes .entry)) ⌝ }
 {

@@ -1,9 +1,10 @@
 -- `lines::put_fields` meets its contract by the cases of the line.
 -- Assumes nothing.
+use mathlib.Core.Path.{sym}
 use native.Mathlib.Omega.{arith}
-use borrow.Author.Needs.{needs}
-use Rattle.lines.specs.Lines.{fieldsText, lineReply}
+use Rattle.lines.specs.Lines.{printedReply, fieldsText}
 use Rattle.lines.proofs.PutLaws.{put-most}
+use borrow.Author.Needs.{needs}
 use Rattle.lines.proofs.put_fields.Statement.{statement}
 use Rattle.lines.proofs.put_fields.Tie as tie
 
@@ -46,83 +47,107 @@ put-read-question-requires c κs = search needs
 enum-known-line-6 : tie.Need-enum-known-line-6
 enum-known-line-6 c = search needs
 
-put-start-requires : tie.Need-put-start-requires
-put-start-requires c κs = search needs
+slice-aggregate-put-event : tie.Need-slice-aggregate-put-event
+slice-aggregate-put-event c = search needs
+
+of-start-requires : tie.Need-of-start-requires
+of-start-requires c κs = search needs
+
+put-event-requires : tie.Need-put-event-requires
+put-event-requires c κs = search needs
 
 enum-known-line-7 : tie.Need-enum-known-line-7
 enum-known-line-7 c = search needs
 
-put-frame-line-requires : tie.Need-put-frame-line-requires
-put-frame-line-requires c κs = search needs
+slice-aggregate-put-event-2 : tie.Need-slice-aggregate-put-event-2
+slice-aggregate-put-event-2 c = search needs
+
+of-line-requires : tie.Need-of-line-requires
+of-line-requires c κs = search needs
+
+put-event-requires-2 : tie.Need-put-event-requires-2
+put-event-requires-2 c κs = search needs
 
 enum-known-line-8 : tie.Need-enum-known-line-8
 enum-known-line-8 c = search needs
 
-put-end-requires : tie.Need-put-end-requires
-put-end-requires c κs = search needs
+slice-aggregate-put-event-3 : tie.Need-slice-aggregate-put-event-3
+slice-aggregate-put-event-3 c = search needs
+
+of-end-requires : tie.Need-of-end-requires
+of-end-requires c κs = search needs
+
+put-event-requires-3 : tie.Need-put-event-requires-3
+put-event-requires-3 c κs = search needs
 
 same-length : tie.Need-same-length
 same-length c = search needs
 
 returns : tie.Need-returns
-unfolding lineReply
+unfolding printedReply
 returns c = rw (c .before .before .before .before .enum-told .given .1) (put-most 38 (omega arith) (c .before .before .put-refusal .ensures))
 
 same-length-2 : tie.Need-same-length-2
 same-length-2 c = search needs
 
 returns-2 : tie.Need-returns-2
-unfolding lineReply
+unfolding printedReply
 returns-2 c = rw (c .before .before .before .before .before .line .given .1) (put-most 38 (omega arith) (c .before .before .put-hub .ensures))
 
 same-length-3 : tie.Need-same-length-3
 same-length-3 c = search needs
 
 returns-3 : tie.Need-returns-3
-unfolding lineReply fieldsText
+unfolding printedReply fieldsText
 returns-3 c = rw (c .before .before .before .before .before .line2 .given .1) (put-most 38 (omega arith) (c .before .before .put-write .ensures))
 
 same-length-4 : tie.Need-same-length-4
 same-length-4 c = search needs
 
 returns-4 : tie.Need-returns-4
-unfolding lineReply fieldsText
+unfolding printedReply fieldsText
 returns-4 c = rw (c .before .before .before .before .before .line3 .given .1) (put-most 38 (omega arith) (c .before .before .put-read .ensures))
 
 same-length-5 : tie.Need-same-length-5
 same-length-5 c = search needs
 
 returns-5 : tie.Need-returns-5
-unfolding lineReply
+unfolding printedReply
 returns-5 c = rw (c .before .before .before .before .before .line4 .given .1) (c .before .before .put-write-question .ensures)
 
 same-length-6 : tie.Need-same-length-6
 same-length-6 c = search needs
 
 returns-6 : tie.Need-returns-6
-unfolding lineReply
+unfolding printedReply
 returns-6 c = rw (c .before .before .before .before .before .line5 .given .1) (c .before .before .put-read-question .ensures)
 
 same-length-7 : tie.Need-same-length-7
 same-length-7 c = search needs
 
 returns-7 : tie.Need-returns-7
-unfolding lineReply
-returns-7 c = rw (c .before .before .before .before .before .line6 .given .1) (put-most 38 (omega arith) (c .before .before .put-start .ensures))
+unfolding printedReply
+returns-7 c =
+    let put = c .before .before in
+    rw (put .before .before .before .before .before .line6 .given .1, sym (put .before .of-start .ensures)) (put-most 38 (omega arith) (put .put-event .ensures))
 
 same-length-8 : tie.Need-same-length-8
 same-length-8 c = search needs
 
 returns-8 : tie.Need-returns-8
-unfolding lineReply
-returns-8 c = rw (c .before .before .before .before .before .line7 .given .1) (put-most 38 (omega arith) (c .before .before .put-frame-line .ensures))
+unfolding printedReply
+returns-8 c =
+    let put = c .before .before in
+    rw (put .before .before .before .before .before .line7 .given .1, sym (put .before .of-line .ensures)) (put-most 38 (omega arith) (put .put-event2 .ensures))
 
 same-length-9 : tie.Need-same-length-9
 same-length-9 c = search needs
 
 returns-9 : tie.Need-returns-9
-unfolding lineReply
-returns-9 c = rw (c .before .before .before .before .before .line8 .given .1) (put-most 38 (omega arith) (c .before .before .put-end .ensures))
+unfolding printedReply
+returns-9 c =
+    let put = c .before .before in
+    rw (put .before .before .before .before .before .line8 .given .1, sym (put .before .of-end .ensures)) (put-most 38 (omega arith) (put .put-event3 .ensures))
 
 pub put-fields-spec : {M : Type 1} → statement M
 put-fields-spec =
@@ -141,11 +166,17 @@ put-fields-spec =
     enum-known-line-5
     put-read-question-requires
     enum-known-line-6
-    put-start-requires
+    slice-aggregate-put-event
+    of-start-requires
+    put-event-requires
     enum-known-line-7
-    put-frame-line-requires
+    slice-aggregate-put-event-2
+    of-line-requires
+    put-event-requires-2
     enum-known-line-8
-    put-end-requires
+    slice-aggregate-put-event-3
+    of-end-requires
+    put-event-requires-3
     same-length
     returns
     same-length-2

@@ -2,7 +2,7 @@
 -- Assumes nothing.
 use mathlib.Core.Path.{sym, ap, _∙_}
 use lib.ListN.{length}
-use Rattle.frames.specs.Events.{endEvent, movedOn, closedWith}
+use Rattle.frames.specs.Events.{endEvent, stateAfterEvent, closedWith}
 use Rattle.frames.proofs.EventLaws.{end-above, end-below, end-first, end-closed, answered-refused, answered-so}
 use borrow.Author.Needs.{needs}
 use Rattle.frames.proofs.end.end.Statement.{statement}
@@ -11,7 +11,7 @@ use Rattle.frames.proofs.end.end.Tie as tie
 returns : tie.Need-returns
 returns c =
     let x = c .before .before .args in
-    answered-refused (x .hub) (movedOn (x .hub) (endEvent (x .port))) (x .buf .now) (x .place) 1
+    answered-refused (x .hub) (stateAfterEvent (x .hub) (endEvent (x .port))) (x .buf .now) (x .place) 1
     (end-above (x .hub) (x .port) (length (x .buf .now)) (x .place) (c .if1 .taken))
 
 last-frame-requires : tie.Need-last-frame-requires
@@ -33,7 +33,7 @@ returns-2 : tie.Need-returns-2
 returns-2 c =
     let l = c .before .before in
     let x = l .before .before .before .args in
-    answered-refused (x .hub) (movedOn (x .hub) (endEvent (x .port))) (x .buf .now) (x .place) 4
+    answered-refused (x .hub) (stateAfterEvent (x .hub) (endEvent (x .port))) (x .buf .now) (x .place) 4
     (end-below (x .hub) (x .port) (length (x .buf .now)) (x .place) (l .before .if1 .left) (sym (c .enum-told .given .1) ∙ l .last-frame .ensures)
     ∙ end-first (x .hub) (x .port) (length (x .buf .now)) (x .place))
 
@@ -41,7 +41,7 @@ returns-3 : tie.Need-returns-3
 returns-3 c =
     let l = c .before .before in
     let x = l .before .before .before .args in
-    answered-refused (x .hub) (movedOn (x .hub) (endEvent (x .port))) (x .buf .now) (x .place) 4
+    answered-refused (x .hub) (stateAfterEvent (x .hub) (endEvent (x .port))) (x .buf .now) (x .place) 4
     (end-below (x .hub) (x .port) (length (x .buf .now)) (x .place) (l .before .if1 .left) (sym (c .enum-told2 .given .1) ∙ l .last-frame .ensures)
     ∙ end-closed (x .hub) (x .port) (length (x .buf .now)) (x .place) (c .enum-told2 .given .0 .0) (c .enum-told2 .given .0 .1 .0))
 

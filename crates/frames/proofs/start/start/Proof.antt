@@ -5,7 +5,7 @@ use lib.ListN.{length}
 use Rattle.laws.specs.Reply.{Reply}
 use Rattle.formats.specs.declared.Format.{Format}
 use Rattle.formats.specs.Formats.{formatReply}
-use Rattle.frames.specs.Events.{startEvent, startWith, openedWith, movedOn}
+use Rattle.frames.specs.Events.{startEvent, startWith, openedWith, stateAfterEvent}
 use Rattle.frames.proofs.EventLaws.{start-above, start-below, start-unknown, answered-refused, answered-so}
 use borrow.Author.Needs.{needs}
 use Rattle.frames.proofs.start.start.Statement.{statement}
@@ -14,7 +14,7 @@ use Rattle.frames.proofs.start.start.Tie as tie
 returns : tie.Need-returns
 returns c =
     let x = c .before .before .args in
-    answered-refused (x .hub) (movedOn (x .hub) (startEvent (x .port) (x .bits))) (x .buf .now) (x .place) 1
+    answered-refused (x .hub) (stateAfterEvent (x .hub) (startEvent (x .port) (x .bits))) (x .buf .now) (x .place) 1
     (start-above (x .hub) (x .port) (length (x .buf .now)) (x .place) (x .bits) (c .if1 .taken))
 
 from-bits-requires : tie.Need-from-bits-requires
@@ -33,7 +33,7 @@ returns-2 : tie.Need-returns-2
 returns-2 c =
     let f = c .before .before in
     let x = f .before .before .before .args in
-    answered-refused (x .hub) (movedOn (x .hub) (startEvent (x .port) (x .bits))) (x .buf .now) (x .place) 3
+    answered-refused (x .hub) (stateAfterEvent (x .hub) (startEvent (x .port) (x .bits))) (x .buf .now) (x .place) 3
     (start-below (x .hub) (x .port) (length (x .buf .now)) (x .place) (x .bits) (f .before .if1 .left)
     ∙ ap (λ (r : Reply Format). startWith (x .hub) (x .port) r (length (x .buf .now)) (x .place)) (sym (f .from-bits .ensures) ∙ ap formatReply (c .enum-told .given .1))
     ∙ start-unknown (x .hub) (x .port) (length (x .buf .now)) (x .place) 3)

@@ -2,7 +2,7 @@
 -- Assumes nothing.
 use mathlib.Core.Path.{refl}
 use lib.ListN.{length}
-use Rattle.lines.specs.Lines.{lineReply}
+use Rattle.lines.specs.Lines.{printedReply}
 use Rattle.lines.specs.Texts.{ascii}
 use Rattle.playback.proofs.EventReplies.{end-sound}
 use Rattle.playback.proofs.RecordPlays.{event-told}
@@ -20,7 +20,7 @@ same-length : tie.Need-same-length
 same-length c = search needs
 
 returns : tie.Need-returns
-unfolding lineReply
+unfolding printedReply
 returns c =
     let e = c .before .before .before .before .before in
     let x = e .before .before .before .args in

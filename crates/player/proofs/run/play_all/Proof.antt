@@ -33,7 +33,7 @@ loop-again : tie.Need-loop-again Inv-loop μ-loop
 loop-again c =
     let turned = c .before .before .before .before .before .before in
     let l = turned .before .before .before .before .before .before .before .loop in
-    (turned .turn .ensures, turned .turn .kept .1 .1 .1 .0 ∙ l .inv .1, turned .turn .kept .1 .1 .1 .1 .0 ∙ l .inv .2, turned .turn .kept .1 .1 .1 .1 .1 .0 ∙ l .inv .3)
+    (turned .turn .ensures .inside, turned .turn .kept .1 .1 .1 .0 ∙ l .inv .1, turned .turn .kept .1 .1 .1 .1 .0 ∙ l .inv .2, turned .turn .kept .1 .1 .1 .1 .1 .0 ∙ l .inv .3)
 
 same-length : tie.Need-same-length Inv-loop μ-loop
 same-length c = c .before .before .before .loop .inv .1

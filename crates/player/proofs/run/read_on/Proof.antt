@@ -1,14 +1,19 @@
--- `player::run::read_on` meets its contract: what the window holds stays inside it.
+-- `player::run::read_on` meets its contract: what the window holds stays in it.
 -- Assumes nothing.
+use mathlib.Core.Path.{refl}
+use native.Mathlib.Omega.{arith}
+use Prim.Native.Nat.{_-_}
+use lib.ListN.{length}
+use borrow.Rule.Slice.PartMut.{take-put}
 use borrow.Author.Needs.{needs}
 use Rattle.player.proofs.run.read_on.Statement.{statement}
 use Rattle.player.proofs.run.read_on.Tie as tie
 
 returns : tie.Need-returns
-returns c = search needs
+returns c = record { session = refl; held = omega arith; inside = search needs; kept = refl }
 
 returns-2 : tie.Need-returns-2
-returns-2 c = search needs
+returns-2 c = record { session = refl; held = omega arith; inside = search needs; kept = refl }
 
 sub-read : tie.Need-sub-read
 sub-read c = search needs
@@ -38,7 +43,12 @@ same-length : tie.Need-same-length
 same-length c = search needs
 
 returns-3 : tie.Need-returns-3
-returns-3 c = search needs
+returns-3 c =
+    let read = c .before .before .before .before .before .before .before in
+    let start = read .before .before .before .before .before .before in
+    let x = start .args in
+    let kept = take-put (x .run .held) (length (x .window .now) - x .run .held) (x .window .now) (read .read .last .1 .0) (start .pre) in
+    record { session = c .stopped .ensures .0; held = omega (arith, c .stopped .ensures .1); inside = search needs; kept = kept }
 
 sub-count : tie.Need-sub-count
 sub-count c = search needs
@@ -59,7 +69,12 @@ same-length-2 : tie.Need-same-length-2
 same-length-2 c = search needs
 
 returns-4 : tie.Need-returns-4
-returns-4 c = search needs
+returns-4 c =
+    let read = c .before .before .before .before .before .before .before in
+    let start = read .before .before .before .before .before .before in
+    let x = start .args in
+    let kept = take-put (x .run .held) (length (x .window .now) - x .run .held) (x .window .now) (read .read .last .1 .0) (start .pre) in
+    record { session = refl; held = omega arith; inside = search needs; kept = kept }
 
 pub read-on-spec : {M : Type 1} → statement M
 read-on-spec =

@@ -1,6 +1,8 @@
--- `player::run::turn` meets its contract: what the window holds stays inside it.
+-- `player::run::turn` meets its contract: the window is played, and what is left of it stays.
 -- Assumes nothing.
+use mathlib.Core.Path.{refl}
 use native.Mathlib.Omega.{arith}
+use Rattle.player.proofs.WindowMoves.{turn-law}
 use borrow.Author.Needs.{needs}
 use Rattle.player.proofs.run.turn.Statement.{statement}
 use Rattle.player.proofs.run.turn.Tie as tie
@@ -17,8 +19,11 @@ part-play-window-end c = search needs
 play-window-requires : tie.Need-play-window-requires
 play-window-requires c κs = search needs
 
+slide-requires : tie.Need-slide-requires
+slide-requires c κs = search needs
+
 write-out-requires : tie.Need-write-out-requires
-write-out-requires c κs = c .before .before .before .before .before .play-window .ensures .1 .1 (omega arith)
+write-out-requires c κs = c .before .before .before .before .before .before .before .before .before .before .play-window .ensures .1 .1 (omega arith)
 
 stopped-requires : tie.Need-stopped-requires
 stopped-requires c κs = search needs
@@ -33,10 +38,13 @@ same-length-3 : tie.Need-same-length-3
 same-length-3 c = search needs
 
 returns : tie.Need-returns
-returns c = omega (arith, c .stopped .ensures .1, c .before .before .before .before .before .before .before .before .before .before .before .before .before .before .before .before .before .before .pre)
-
-slide-requires : tie.Need-slide-requires
-slide-requires c κs = search needs
+returns c =
+    let slid = c .before .before .before .before .before .before in
+    let played = slid .before .before .before .before .before .before .before in
+    let start = played .before .before .before .before .before .before .before .before .before .before in
+    turn-law (start .args .run) _ (start .args .window .now) (start .args .packets .now) (start .args .out .now) (played .play-window .result) _ _ _ _ (slid .slide .result) (start .pre)
+    (played .play-window .ensures .0) (played .play-window .ensures .1 .0) (slid .slide .ensures .0) (slid .slide .ensures .1)
+    (record { session = c .stopped .ensures .0; held = omega (arith, c .stopped .ensures .1); inside = omega (arith, c .stopped .ensures .1, slid .slide .ensures .0, slid .slide .kept .0, start .pre); kept = refl })
 
 is-done-requires : tie.Need-is-done-requires
 is-done-requires c κs = search needs
@@ -58,8 +66,12 @@ same-length-6 c = search needs
 
 returns-2 : tie.Need-returns-2
 returns-2 c =
-    let slid = c .before .before .before .before .before .before in
-    omega (arith, c .stopped2 .ensures .1, slid .slide .ensures .0, slid .slide .kept .0, slid .before .before .before .before .before .before .before .before .before .before .before .before .before .before .before .before .before .before .before .before .pre)
+    let slid = c .before .before .before .before .before .before .before .before .before in
+    let played = slid .before .before .before .before .before .before .before in
+    let start = played .before .before .before .before .before .before .before .before .before .before in
+    turn-law (start .args .run) _ (start .args .window .now) (start .args .packets .now) (start .args .out .now) (played .play-window .result) _ _ _ _ (slid .slide .result) (start .pre)
+    (played .play-window .ensures .0) (played .play-window .ensures .1 .0) (slid .slide .ensures .0) (slid .slide .ensures .1)
+    (record { session = c .stopped2 .ensures .0; held = omega (arith, c .stopped2 .ensures .1); inside = omega (arith, c .stopped2 .ensures .1, slid .slide .ensures .0, slid .slide .kept .0, start .pre); kept = refl })
 
 read-on-requires : tie.Need-read-on-requires
 read-on-requires c κs = search needs
@@ -74,7 +86,13 @@ same-length-9 : tie.Need-same-length-9
 same-length-9 c = search needs
 
 returns-3 : tie.Need-returns-3
-returns-3 c = search needs
+returns-3 c =
+    let slid = c .before .before .before .before .before .before .before .before .before .before .before in
+    let played = slid .before .before .before .before .before .before .before in
+    let start = played .before .before .before .before .before .before .before .before .before .before in
+    turn-law (start .args .run) _ (start .args .window .now) (start .args .packets .now) (start .args .out .now) (played .play-window .result) _ _ _ _ (slid .slide .result) (start .pre)
+    (played .play-window .ensures .0) (played .play-window .ensures .1 .0) (slid .slide .ensures .0) (slid .slide .ensures .1)
+    (c .before .before .read-on .ensures)
 
 pub turn-spec : {M : Type 1} → statement M
 turn-spec =
@@ -84,13 +102,13 @@ turn-spec =
     part-play-window-start
     part-play-window-end
     play-window-requires
+    slide-requires
     write-out-requires
     stopped-requires
     same-length
     same-length-2
     same-length-3
     returns
-    slide-requires
     is-done-requires
     write-counts-requires
     stopped-requires-2

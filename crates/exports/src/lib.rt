@@ -1,0 +1,114 @@
+// Functions of `ecc`, `crc` and `csi2` for programs in C and Rust. An answer that may be a refusal is one number (specs/Numbers.antt).
+// A slice is passed as its address and its length. The caller answers for both, and that no other slice overlaps a `&mut` one.
+ghost use mathlib.Core.Path.{_≡_};
+ghost use lib.ListN.{length};
+ghost use Rattle.laws.specs.Reply.{onReply};
+ghost use Rattle.laws.specs.Buffers.{afterReply, countOf};
+ghost use Rattle.formats.specs.declared.Format.the-variants.{Raw10, Raw12};
+ghost use Rattle.ecc.specs.CheckBytes.{checkByte};
+ghost use Rattle.ecc.specs.HeaderCorrection.{correctionOf};
+ghost use Rattle.crc.specs.Checksum.{crcFrom, crcOf};
+ghost use Rattle.csi2.specs.Writers.{packLineReply, lineReply};
+ghost use Rattle.csi2.specs.Reader.{readPacket, payloadRead};
+ghost use Rattle.exports.specs.Numbers.{replyNumber, correctionNumber, packetNumber};
+use csi2::line;
+use csi2::raw;
+use csi2::reader;
+use formats::Format;
+
+mod numbers;
+
+// The check byte of a header whose three first bytes are `word`, the identifier lowest.
+#[no_mangle]
+pub extern "C" fn loopcinder_check_byte(word: u32) -> u8
+    ensures { λ r. ⌜ r ≡ checkByte word ⌝ }
+{
+    ecc::check_byte(word)
+}
+
+// What a header is read as, its four bytes as one number, the identifier lowest; and which bit was wrong.
+#[no_mangle]
+pub extern "C" fn loopcinder_correct_header(header: u32) -> u64
+    ensures { λ r. ⌜ r ≡ replyNumber (onReply correctionNumber (correctionOf header)) ⌝ }
+{
+    numbers::of_correction(ecc::correct_header(header))
+}
+
+// The checksum of a payload.
+#[no_mangle]
+pub extern "C" fn loopcinder_checksum(payload: &[u8]) -> u16
+    ensures { λ r. ⌜ r ≡ crcOf (now (payload .entry)) ⌝ }
+{
+    crc::checksum(payload)
+}
+
+// The running checksum `crc` after the next bytes.
+#[no_mangle]
+pub extern "C" fn loopcinder_feed(crc: u16, bytes: &[u8]) -> u16
+    ensures { λ r. ⌜ r ≡ crcFrom crc (now (bytes .entry)) ⌝ }
+{
+    crc::feed(crc, bytes)
+}
+
+// Packs a line of RAW10 from the place; or refuses it and writes nothing. How many bytes were packed.
+#[no_mangle]
+pub extern "C" fn loopcinder_pack_raw10(pixels: &[u16], buf: &mut [u8], place: usize) -> u64
+    ensures { λ r. ⌜ r ≡ replyNumber (countOf (packLineReply Raw10 (now (pixels .entry)) (length (now (buf .entry))) place)) ⌝ }
+    ensures { λ _. ⌜ now (buf .exit) ≡ afterReply (now (buf .entry)) place (packLineReply Raw10 (now (pixels .entry)) (length (now (buf .entry))) place) ⌝ }
+{
+    numbers::of_pack_answer(raw::pack_line(Format::Raw10, pixels, buf, place))
+}
+
+// The same for a line of RAW12.
+#[no_mangle]
+pub extern "C" fn loopcinder_pack_raw12(pixels: &[u16], buf: &mut [u8], place: usize) -> u64
+    ensures { λ r. ⌜ r ≡ replyNumber (countOf (packLineReply Raw12 (now (pixels .entry)) (length (now (buf .entry))) place)) ⌝ }
+    ensures { λ _. ⌜ now (buf .exit) ≡ afterReply (now (buf .entry)) place (packLineReply Raw12 (now (pixels .entry)) (length (now (buf .entry))) place) ⌝ }
+{
+    numbers::of_pack_answer(raw::pack_line(Format::Raw12, pixels, buf, place))
+}
+
+// Writes a line of RAW10 as a packet from the place; or refuses it and writes nothing. How many bytes were written.
+#[no_mangle]
+pub extern "C" fn loopcinder_write_raw10_line(
+    pixels: &[u16],
+    identifier: u8,
+    buf: &mut [u8],
+    place: usize,
+) -> u64
+    ensures { λ r. ⌜ r ≡ replyNumber (countOf (lineReply Raw10 (now (pixels .entry)) identifier (length (now (buf .entry))) place)) ⌝ }
+    ensures { λ _. ⌜ now (buf .exit) ≡ afterReply (now (buf .entry)) place (lineReply Raw10 (now (pixels .entry)) identifier (length (now (buf .entry))) place) ⌝ }
+{
+    numbers::of_line_answer(line::write_line(Format::Raw10, pixels, identifier, buf, place))
+}
+
+// The same for a line of RAW12.
+#[no_mangle]
+pub extern "C" fn loopcinder_write_raw12_line(
+    pixels: &[u16],
+    identifier: u8,
+    buf: &mut [u8],
+    place: usize,
+) -> u64
+    ensures { λ r. ⌜ r ≡ replyNumber (countOf (lineReply Raw12 (now (pixels .entry)) identifier (length (now (buf .entry))) place)) ⌝ }
+    ensures { λ _. ⌜ now (buf .exit) ≡ afterReply (now (buf .entry)) place (lineReply Raw12 (now (pixels .entry)) identifier (length (now (buf .entry))) place) ⌝ }
+{
+    numbers::of_line_answer(line::write_line(Format::Raw12, pixels, identifier, buf, place))
+}
+
+// Reads the packet at the start of the bytes.
+#[no_mangle]
+pub extern "C" fn loopcinder_read_packet(bytes: &[u8]) -> u64
+    ensures { λ r. ⌜ r ≡ replyNumber (onReply packetNumber (readPacket (now (bytes .entry)))) ⌝ }
+{
+    numbers::of_packet_read(reader::read_packet(bytes))
+}
+
+// How many bytes the payload of the packet at the start of the bytes has: they stand behind its header's four; 0 on refusal.
+#[no_mangle]
+pub extern "C" fn loopcinder_payload_length(bytes: &[u8]) -> usize
+    ensures { λ r. ⌜ r ≡ length (payloadRead (now (bytes .entry))) ⌝ }
+{
+    let payload = reader::payload(bytes);
+    payload.len()
+}

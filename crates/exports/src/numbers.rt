@@ -1,0 +1,87 @@
+// The answers of `ecc` and `csi2` as numbers of 64 bits.
+ghost use mathlib.Core.Path.{_≡_};
+ghost use Prim.Native.Nat.{_*_, _^_};
+ghost use Rattle.laws.specs.Reply.{onReply};
+ghost use Rattle.ecc.specs.HeaderCorrection.{correctionReply};
+ghost use Rattle.csi2.specs.Writers.{packAnswerReply, lineAnswerReply};
+ghost use Rattle.csi2.specs.Reader.{packetReadReply};
+ghost use Rattle.exports.specs.Numbers.{replyNumber, correctedNumber, correctionNumber, packetNumber};
+use csi2::line::LineAnswer;
+use csi2::raw::PackAnswer;
+use csi2::reader::PacketRead;
+use ecc::Corrected;
+use ecc::Correction;
+
+// A refusal: its number in the top byte.
+fn of_refusal(number: u8) -> u64
+    ensures { λ r. ⌜ r ≡ number * 2 ^ 56 ⌝ }
+{
+    (number as u64) * 0x100000000000000
+}
+
+// The bit that was wrong, counted from 1, or 0 for none.
+fn of_corrected(corrected: Corrected) -> u16
+    ensures { λ r. ⌜ r ≡ correctedNumber corrected ⌝ }
+{
+    match corrected {
+        Corrected::Nothing => 0,
+        Corrected::HeaderBit(bit) => 1 + (bit as u16),
+    }
+}
+
+// What a header is read as: its four bytes, and the bit above them.
+pub(crate) fn of_correction(correction: Correction) -> u64
+    ensures { λ r. ⌜ r ≡ replyNumber (onReply correctionNumber (correctionReply correction)) ⌝ }
+{
+    match correction {
+        Correction::Uncorrectable => of_refusal(10),
+        Correction::Header { header, corrected } => {
+            (header as u64) + 0x100000000 * (of_corrected(corrected) as u64)
+        }
+    }
+}
+
+// How many bytes were packed.
+pub(crate) fn of_pack_answer(answer: PackAnswer) -> u64
+    ensures { λ r. ⌜ r ≡ replyNumber (packAnswerReply answer) ⌝ }
+{
+    match answer {
+        PackAnswer::WidthNotAllowed => of_refusal(5),
+        PackAnswer::PixelTooLarge => of_refusal(6),
+        PackAnswer::NoRoom => of_refusal(8),
+        PackAnswer::Packed(bytes) => bytes as u64,
+    }
+}
+
+// How many bytes were written.
+pub(crate) fn of_line_answer(answer: LineAnswer) -> u64
+    ensures { λ r. ⌜ r ≡ replyNumber (lineAnswerReply answer) ⌝ }
+{
+    match answer {
+        LineAnswer::WidthNotAllowed => of_refusal(5),
+        LineAnswer::PixelTooLarge => of_refusal(6),
+        LineAnswer::ShortType => of_refusal(7),
+        LineAnswer::NoRoom => of_refusal(8),
+        LineAnswer::Wrote(bytes) => bytes as u64,
+    }
+}
+
+// What a packet's header says: the identifier, the word count above it, and the bit above that.
+pub(crate) fn of_packet_read(read: PacketRead) -> u64
+    ensures { λ r. ⌜ r ≡ replyNumber (onReply packetNumber (packetReadReply read)) ⌝ }
+{
+    match read {
+        PacketRead::Truncated => of_refusal(12),
+        PacketRead::HeaderUncorrectable => of_refusal(10),
+        PacketRead::ChecksumWrong => of_refusal(11),
+        PacketRead::Accepted {
+            data_identifier,
+            word_count,
+            corrected,
+        } => {
+            (data_identifier as u64)
+                + 0x100 * (word_count as u64)
+                + 0x1000000 * (of_corrected(corrected) as u64)
+        }
+    }
+}

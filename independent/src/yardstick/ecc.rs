@@ -1,0 +1,82 @@
+//! The check byte (ECC) by counts of ones under masks, and header repair by its syndrome: looked
+//! for among the columns of the 32 bits, or looked up in a table of all syndromes.
+
+use crate::refusal::Refusal;
+
+/// The data bits of the check bits P0 to P5.
+const MASKS: [u32; 6] = [0xF12CB7, 0xF2555B, 0x749A6D, 0xB8E38E, 0xDF03F0, 0xEFFC00];
+
+/// The syndrome that each of the 32 bits makes when it is flipped.
+static COLUMNS: [u8; 32] = columns();
+
+/// For each syndrome the bit that makes it, or `NO_BIT`.
+static BITS: [u8; 256] = bits();
+const NO_BIT: u8 = 0xFF;
+
+const fn columns() -> [u8; 32] {
+    let mut columns = [0; 32];
+    let mut bit = 0;
+    while bit < 32 {
+        columns[bit] = syndrome(1 << bit);
+        bit += 1;
+    }
+    columns
+}
+
+const fn bits() -> [u8; 256] {
+    let mut bits = [NO_BIT; 256];
+    let mut bit = 0;
+    while bit < 32 {
+        bits[syndrome(1 << bit) as usize] = bit;
+        bit += 1;
+    }
+    bits
+}
+
+const fn check_bits(word: u32) -> u8 {
+    let mut check = 0;
+    let mut k = 0;
+    while k < 6 {
+        check |= ((word & MASKS[k]).count_ones() % 2) << k;
+        k += 1;
+    }
+    check as u8
+}
+
+/// How the check byte that the header has differs from the one that it should have.
+const fn syndrome(header: u32) -> u8 {
+    check_bits(header & 0xFF_FFFF) ^ (header >> 24) as u8
+}
+
+/// The check byte of a header whose first three bytes are the low 24 bits.
+#[inline(never)]
+pub fn check_byte(word: u32) -> u8 {
+    check_bits(word)
+}
+
+/// A header as it is read: the right one, and the bit that was corrected if one was.
+pub type Corrected = (u32, Option<u8>);
+
+#[inline(never)]
+pub fn correct_by_search(header: u32) -> Result<Corrected, Refusal> {
+    let syndrome = syndrome(header);
+    if syndrome == 0 {
+        return Ok((header, None));
+    }
+    match COLUMNS.iter().position(|&column| column == syndrome) {
+        Some(bit) => Ok((header ^ 1 << bit, Some(bit as u8))),
+        None => Err(Refusal::HeaderBeyondRepair),
+    }
+}
+
+#[inline(never)]
+pub fn correct_by_table(header: u32) -> Result<Corrected, Refusal> {
+    let syndrome = syndrome(header);
+    if syndrome == 0 {
+        return Ok((header, None));
+    }
+    match BITS[usize::from(syndrome)] {
+        NO_BIT => Err(Refusal::HeaderBeyondRepair),
+        bit => Ok((header ^ 1 << bit, Some(bit))),
+    }
+}
