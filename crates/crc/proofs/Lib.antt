@@ -3,3 +3,4 @@ pub mod Shifts
 pub mod Quotient
 pub mod Words
 pub mod Windows
+pub mod WideWindows

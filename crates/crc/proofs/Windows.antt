@@ -14,7 +14,7 @@ use Rattle.crc.proofs.Quotient.{move, divided}
 use Rattle.crc.proofs.Shifts.{shifts-linear, shifts-add, from-top}
 
 -- 256 shifts of a register of 16 bits: the polynomial to the power 16 has bits 0, 64, 176 and 256
-sparse : (v : ℕ) → v < 2 ^ 16 → bitXor (bitXor (shifts 192 v) (shifts 80 v)) v ≡ shifts 256 v
+pub sparse : (v : ℕ) → v < 2 ^ 16 → bitXor (bitXor (shifts 192 v) (shifts 80 v)) v ≡ shifts 256 v
 unfolding shifts crcBit allBelow
 sparse = by-powers (both (both (move 192) (move 80)) same) (move 256) 16 tt
 

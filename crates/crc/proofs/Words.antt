@@ -1,13 +1,14 @@
 -- Words of 64 bits that hold bytes: how they are made, and what feeding them does.
 -- Assumes nothing.
-use mathlib.Core.Path.{_≡_, sym, ap, ap₂, _∙_}
+use mathlib.Core.Path.{_≡_, refl, sym, ap, ap₂, _∙_}
 use mathlib.Core.List.{List}
 use Prim.Native.Nat.{ℕ, suc, _+_, _*_, _/_, _%_, _^_, _<_}
 use native.Mathlib.Nat.{lt-of-lt-of-le, div-eq-of-lt, add-assoc, add-comm}
+use native.Mathlib.Numerals.{add-one}
 use native.Mathlib.Omega.{arith}
 use lib.Bits.{bitXor, xor-comm, xor-zero-r, xor-lt, xor-shr}
 use lib.ListN.{length, take, drop, getD}
-use lib.Seq.{drop-cons, take-all}
+use lib.Seq.{drop-cons, drop-drop, take-all}
 use lib.Pow.{pow-mono, shl-exact, shl-lt}
 use Rattle.laws.proofs.Bitwise.{xor-assoc}
 use Rattle.crc.specs.Checksum.{crcBits, crcFrom}
@@ -39,6 +40,30 @@ holds-more s p n x hp hn hb h =
         ∙ ap (shifts (8 * n)) (ap₂ bitXor (all-fed 8 c b hb) (sym (taken-down 8 x)) ∙ sym (shifts-linear 8 (bitXor c b) (x * 2 ^ 8)))
         ∙ sym (shifts-add 8 (8 * n) (bitXor (bitXor c b) (x * 2 ^ 8)))
         ∙ ap₂ shifts (sym (longer ∙ add-comm (8 * n) 8)) (xor-assoc c b (x * 2 ^ 8) ∙ ap (bitXor c) (xor-comm b (x * 2 ^ 8)))
+
+-- a byte behind the n that a word holds
+pub holds-last : (s : List ℕ) (p n x : ℕ) → p + n < length s → n < 8 → getD s (p + n) 0 < 256 → Holds s p n x
+    → Holds s p (suc n) (bitXor x (getD s (p + n) 0 * 2 ^ (8 * n) % 2 ^ 64))
+unfolding crcFrom
+holds-last s p n x hp hn hb h =
+    rw (shl-exact 8 (8 * n) 64 hb (omega arith))
+    (record {
+      small = rw longer (xor-lt (8 + 8 * n) _ _ (lt-of-lt-of-le (h .small) (pow-mono (omega arith))) (shl-lt 8 (8 * n) hb));
+      feeds = λ c.
+          ap (λ (k : ℕ). crcFrom c (take k (drop p s))) (sym (add-one n)) ∙ sym (crc-more c (drop p s) n 1 refl)
+          ∙ ap (λ (l : List ℕ). crcFrom (crcFrom c (take n (drop p s))) (take 1 l)) (drop-drop n p s ∙ drop-cons s (p + n) 0 hp)
+          ∙ fed c (getD s (p + n) 0) hb;
+    })
+  where
+    longer : 8 * suc n ≡ 8 + 8 * n
+    longer = omega arith
+
+    fed : (c b : ℕ) → b < 256 → crcBits 8 (crcFrom c (take n (drop p s))) b ≡ shifts (8 * suc n) (bitXor c (bitXor x (b * 2 ^ (8 * n))))
+    fed c b hb =
+        all-fed 8 _ b hb
+        ∙ ap (shifts 8) (ap₂ bitXor (h .feeds c) (sym (taken-down (8 * n) b)) ∙ sym (shifts-linear (8 * n) (bitXor c x) (b * 2 ^ (8 * n))))
+        ∙ sym (shifts-add (8 * n) 8 (bitXor (bitXor c x) (b * 2 ^ (8 * n))))
+        ∙ ap₂ shifts (add-comm (8 * n) 8 ∙ sym longer) (xor-assoc c x (b * 2 ^ (8 * n)))
 
 -- a word more of a list, and two
 pub word-next : (c : ℕ) (s : List ℕ) (i : ℕ) {sum x : ℕ} → Holds s i 8 x → sum ≡ crcFrom c (take i s)

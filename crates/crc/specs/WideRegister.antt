@@ -1,7 +1,7 @@
 -- The checksum's register wider than 16 bits, by which the source goes many bytes a step. No rule of the papers.
 -- Assumes nothing.
 use mathlib.Core.Path.{_≡_}
-use mathlib.Core.List.{List}
+use mathlib.Core.List.{List, [], _∷_}
 use Prim.Native.Nat.{ℕ, zero, suc, _*_, _^_, _≤_, _<_}
 use lib.Bits.{bitXor}
 use lib.ListN.{length, take, drop}
@@ -25,6 +25,15 @@ afterWord register x = shifts 64 (bitXor register x)
 -- the register that a window stands for
 abbrev pub afterWindow : Window → ℕ
 afterWindow w = afterWord (afterWord (afterWord (shifts 64 (w .first)) (w .second)) (w .third)) (w .fourth)
+
+-- the register after a list of words
+unfoldable pub afterWords : ℕ → List ℕ → ℕ
+afterWords register [] = register
+afterWords register (x ∷ words) = afterWords (afterWord register x) words
+
+-- the first 32 of these words, a wide window, stand for the first n bytes
+abbrev pub StandFor : ℕ → List ℕ → ℕ → List ℕ → Type 0
+StandFor crc bytes n words = afterWords 0 (take 32 words) ≡ crcFrom crc (take n bytes)
 
 -- sum is the running checksum crc after the first n of these bytes
 pub record SumOfFirst (crc : ℕ) (bytes : List ℕ) (n sum : ℕ) : Type 0 where

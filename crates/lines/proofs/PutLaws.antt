@@ -11,7 +11,7 @@ use lib.Dec.{leb}
 use lib.ListN.{length, set, length-append, length-set}
 use Rattle.laws.specs.Buffers.{written}
 use Rattle.laws.proofs.Buffers.{written-nil, written-sets, written-more, length-written}
-use Rattle.lines.specs.Lines.{ifTextRoom, afterText, nextPlace}
+use Rattle.lines.specs.Room.{ifTextRoom, afterText, nextPlace}
 use Rattle.lines.specs.Putting.{Put}
 
 -- nothing is put

@@ -9,7 +9,7 @@ use native.Mathlib.Numerals.{sub-one}
 use native.Mathlib.Omega.{arith}
 use lib.Dec.{ltb}
 use borrow.Author.Tests.{lt-ltb, le-ltb}
-use Rattle.lines.specs.Texts.{decimalFrom, decimal}
+use Rattle.answers.specs.Texts.{decimalFrom, decimal}
 
 -- no digit may be put
 pub decimal-none : (k n : ℕ) → k ≡ 0 → decimalFrom k n ≡ []

@@ -4,11 +4,7 @@ use mathlib.Core.Path.{_≡_}
 use mathlib.Core.List.{List}
 use Prim.Native.Nat.{ℕ, _+_, _≤_}
 use lib.ListN.{length}
-use Rattle.laws.specs.Reply.{Reply, refused, given}
 use Rattle.laws.specs.Buffers.{written}
-use Rattle.frames.specs.Events.{Told, wasDropped, wasSent}
-use Rattle.lines.specs.declared.told.EventAnswer.{EventAnswer}
-use Rattle.lines.specs.declared.told.EventAnswer.the-variants.{Refused, Dropped, Sent}
 
 -- the text, of at most `most` bytes, was put into the buffer `before` from the place `at` on, which is now `after`; the next place is `next`
 pub record Put (most : ℕ) (before : List ℕ) (at : ℕ) (text after : List ℕ) (next : ℕ) : Type 0 where
@@ -17,9 +13,3 @@ pub record Put (most : ℕ) (before : List ℕ) (at : ℕ) (text after : List �
   pub inside : at + length text ≤ length before
   pub short : length text ≤ most
   pub same : length after ≡ length before
-
--- what a frame event was answered, whichever event it was
-abbrev pub eventAnswerReply : EventAnswer → Reply Told
-eventAnswerReply (Refused number) = refused number
-eventAnswerReply Dropped = given wasDropped
-eventAnswerReply (Sent csi bytes) = given (wasSent csi bytes)

@@ -3,20 +3,13 @@ ghost use mathlib.Core.List.{_++_};
 ghost use Prim.Native.Nat.{_+_, _≤_};
 ghost use lib.ListN.{length};
 ghost use Rattle.laws.specs.Reply.{onReply};
-ghost use Rattle.lines.specs.Texts.{ascii, decimal, hexBytes};
-ghost use Rattle.lines.specs.Lines.{headerList, droppedFields, sentFields, toldFields, fieldsText};
-ghost use Rattle.lines.specs.Putting.{Put, eventAnswerReply};
+ghost use Rattle.answers.specs.Texts.{ascii, decimal, hexBytes};
+ghost use Rattle.answers.specs.Lines.{eventAnswerReply, headerList, droppedFields, sentFields, toldFields, fieldsText};
+ghost use Rattle.lines.specs.Putting.{Put};
 use crate::refusal;
 use crate::text;
-use crate::told::EventAnswer;
-
-// The four bytes of a packet header.
-pub struct Header {
-    pub data_identifier: u8,
-    pub word_count_low: u8,
-    pub word_count_high: u8,
-    pub check_byte: u8,
-}
+use answers::event::EventAnswer;
+use answers::event::Header;
 
 fn put_header(out: &mut [u8], at: usize, header: Header) -> usize
     requires { ⌜ at + 8 ≤ length (now out) ⌝ }

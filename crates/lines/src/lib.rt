@@ -1,66 +1,18 @@
-// The lines that the player prints: what a record was answered, and its text.
+// The lines that the player prints, put into a buffer from a place on.
 ghost use mathlib.Core.Path.{_≡_};
 ghost use Prim.Native.Nat.{_+_, _≤_};
 ghost use lib.Dec.{leb};
 ghost use lib.ListN.{length};
-ghost use Rattle.laws.specs.Reply.{isRefused};
-ghost use Rattle.lines.specs.Lines.{fieldsText, lineText, countsText, printedReply, textRoom, ifTextRoom, afterText, nextPlace, textReply};
+ghost use Rattle.answers.specs.Lines.{fieldsText, lineText, countsText, answerReply};
+ghost use Rattle.lines.specs.Room.{textRoom, ifTextRoom, afterText, nextPlace, textReply};
 ghost use Rattle.lines.specs.Putting.{Put};
-use crate::event::Header;
-use frames::end::EndAnswer;
-use frames::line::LineAnswer;
-use frames::start::StartAnswer;
-use hub::CreationAnswer;
-use hub::translation::ReadAnswer;
-use hub::translation::WriteAnswer;
+use answers::RecordAnswer;
 
-pub mod event;
+mod event;
 mod question;
 mod refusal;
-mod refused;
 mod register;
 mod text;
-mod told;
-
-// What a record was answered.
-pub enum PrintedLine {
-    NoRecord,
-    Hub {
-        address: u8,
-        answer: CreationAnswer,
-    },
-    Write {
-        offset: u8,
-        count: u64,
-    },
-    Read {
-        offset: u8,
-        value: u8,
-    },
-    WriteQuestion {
-        address: u8,
-        answer: WriteAnswer,
-    },
-    ReadQuestion {
-        address: u8,
-        answer: ReadAnswer,
-    },
-    Start {
-        port: u8,
-        answer: StartAnswer,
-        header: Header,
-    },
-    FrameLine {
-        port: u8,
-        answer: LineAnswer,
-        header: Header,
-    },
-    End {
-        port: u8,
-        answer: EndAnswer,
-        header: Header,
-    },
-}
 
 // The place behind the text, or that fewer than 64 bytes are free from the place on.
 pub enum TextAnswer {
@@ -79,42 +31,49 @@ pub fn has_text_room(size: usize, at: usize) -> bool
 }
 
 // What stands behind the number in a line.
-fn put_fields(out: &mut [u8], at: usize, line: PrintedLine) -> usize
+fn put_fields(out: &mut [u8], at: usize, line: RecordAnswer) -> usize
     requires { ⌜ at + 38 ≤ length (now out) ⌝ }
-    ensures { λ r. ⌜ Put 38 (now (out .entry)) at (fieldsText (printedReply line)) (now (out .exit)) r ⌝ }
+    ensures { λ r. ⌜ Put 38 (now (out .entry)) at (fieldsText (answerReply line)) (now (out .exit)) r ⌝ }
 {
     match line {
-        PrintedLine::NoRecord => refusal::put_refusal(out, at, 13),
-        PrintedLine::Hub { address, answer } => register::put_hub(out, at, address, answer),
-        PrintedLine::Write { offset, count } => register::put_write(out, at, offset, count),
-        PrintedLine::Read { offset, value } => register::put_read(out, at, offset, value),
-        PrintedLine::WriteQuestion { address, answer } => {
+        RecordAnswer::NoRecord => refusal::put_refusal(out, at, 13),
+        RecordAnswer::Hub { address, answer } => register::put_hub(out, at, address, answer),
+        RecordAnswer::Write { offset, count } => register::put_write(out, at, offset, count),
+        RecordAnswer::Read { offset, value } => register::put_read(out, at, offset, value),
+        RecordAnswer::WriteQuestion { address, answer } => {
             question::put_write_question(out, at, address, answer)
         }
-        PrintedLine::ReadQuestion { address, answer } => {
+        RecordAnswer::ReadQuestion { address, answer } => {
             question::put_read_question(out, at, address, answer)
         }
-        PrintedLine::Start {
+        RecordAnswer::Start {
             port,
             answer,
             header,
-        } => event::put_event(out, at, b"S", port, told::of_start(answer), header),
-        PrintedLine::FrameLine {
+        } => event::put_event(
+            out,
+            at,
+            b"S",
+            port,
+            answers::event::of_start(answer),
+            header,
+        ),
+        RecordAnswer::FrameLine {
             port,
             answer,
             header,
-        } => event::put_event(out, at, b"L", port, told::of_line(answer), header),
-        PrintedLine::End {
+        } => event::put_event(out, at, b"L", port, answers::event::of_line(answer), header),
+        RecordAnswer::End {
             port,
             answer,
             header,
-        } => event::put_event(out, at, b"E", port, told::of_end(answer), header),
+        } => event::put_event(out, at, b"E", port, answers::event::of_end(answer), header),
     }
 }
 
-fn put_numbered(out: &mut [u8], at: usize, number: u64, line: PrintedLine) -> usize
+fn put_numbered(out: &mut [u8], at: usize, number: u64, line: RecordAnswer) -> usize
     requires { ⌜ at + 60 ≤ length (now out) ⌝ }
-    ensures { λ r. ⌜ Put 60 (now (out .entry)) at (lineText number (printedReply line)) (now (out .exit)) r ⌝ }
+    ensures { λ r. ⌜ Put 60 (now (out .entry)) at (lineText number (answerReply line)) (now (out .exit)) r ⌝ }
 {
     let space = text::put_decimal(out, at, number);
     let fields = text::put_text(out, space, b" ");
@@ -123,8 +82,8 @@ fn put_numbered(out: &mut [u8], at: usize, number: u64, line: PrintedLine) -> us
 }
 
 // Puts the line of the record with that number into the buffer from the place on, where 64 bytes are free there.
-pub fn put_line(number: u64, line: PrintedLine, out: &mut [u8], at: usize) -> TextAnswer
-    ensures { λ r. ⌜ (textReply r ≡ nextPlace at (ifTextRoom (length (now (out .entry))) at (lineText number (printedReply line)))) × (now (out .exit) ≡ afterText (now (out .entry)) at (ifTextRoom (length (now (out .entry))) at (lineText number (printedReply line)))) ⌝ }
+pub fn put_line(number: u64, line: RecordAnswer, out: &mut [u8], at: usize) -> TextAnswer
+    ensures { λ r. ⌜ (textReply r ≡ nextPlace at (ifTextRoom (length (now (out .entry))) at (lineText number (answerReply line)))) × (now (out .exit) ≡ afterText (now (out .entry)) at (ifTextRoom (length (now (out .entry))) at (lineText number (answerReply line)))) ⌝ }
 {
     if !has_text_room(out.len(), at) {
         return TextAnswer::NoRoom;
@@ -151,39 +110,4 @@ pub fn put_counts(records: u64, refused: u64, out: &mut [u8], at: usize) -> Text
         return TextAnswer::NoRoom;
     }
     TextAnswer::Next(put_last(out, at, records, refused))
-}
-
-// Whether the record was refused.
-pub fn is_refused(line: PrintedLine) -> bool
-    ensures { λ r. ⌜ r ≡ isRefused (printedReply line) ⌝ }
-{
-    match line {
-        PrintedLine::NoRecord => true,
-        PrintedLine::Hub { address, answer } => refused::hub_refused(address, answer),
-        PrintedLine::Write {
-            offset: _,
-            count: _,
-        } => false,
-        PrintedLine::Read {
-            offset: _,
-            value: _,
-        } => false,
-        PrintedLine::WriteQuestion { address: _, answer } => refused::write_refused(answer),
-        PrintedLine::ReadQuestion { address: _, answer } => refused::read_refused(answer),
-        PrintedLine::Start {
-            port: _,
-            answer,
-            header: _,
-        } => told::is_refused(told::of_start(answer)),
-        PrintedLine::FrameLine {
-            port: _,
-            answer,
-            header: _,
-        } => told::is_refused(told::of_line(answer)),
-        PrintedLine::End {
-            port: _,
-            answer,
-            header: _,
-        } => told::is_refused(told::of_end(answer)),
-    }
 }

@@ -2,7 +2,7 @@
 ghost use Prim.Native.Nat.{_+_, _≤_};
 ghost use lib.ListN.{length};
 ghost use Rattle.laws.specs.Reply.{refused};
-ghost use Rattle.lines.specs.Lines.{fieldsText};
+ghost use Rattle.answers.specs.Lines.{fieldsText};
 ghost use Rattle.lines.specs.Putting.{Put};
 use crate::text;
 

@@ -1,7 +1,7 @@
 // The fields of a hub record, a register write and a register read, put into a buffer from a place on; the answer is the place behind them.
 ghost use Prim.Native.Nat.{_+_, _≤_};
 ghost use lib.ListN.{length};
-ghost use Rattle.lines.specs.Lines.{hubLine, writeFields, readFields, fieldsText};
+ghost use Rattle.answers.specs.Lines.{hubLine, writeFields, readFields, fieldsText};
 ghost use Rattle.lines.specs.Putting.{Put};
 use crate::refusal;
 use crate::text;

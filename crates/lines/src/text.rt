@@ -3,7 +3,7 @@ ghost use mathlib.Core.Path.{_≡_};
 ghost use mathlib.Core.List.{[], _∷_};
 ghost use Prim.Native.Nat.{_+_, _≤_, _<_};
 ghost use lib.ListN.{length};
-ghost use Rattle.lines.specs.Texts.{hexDigit, hexByte, decimalFrom, decimal};
+ghost use Rattle.answers.specs.Texts.{hexDigit, hexByte, decimalFrom, decimal};
 ghost use Rattle.lines.specs.Putting.{Put};
 
 pub(crate) fn put_text(out: &mut [u8], at: usize, text: &[u8]) -> usize

@@ -19,8 +19,8 @@ use Rattle.hub.specs.declared.Creation.{Creation}
 use Rattle.hub.specs.declared.CreationAnswer.the-variants.{AddressOutOfRange, Created}
 use Rattle.laws.proofs.Buffers.{run-eq}
 use Rattle.frames.specs.Events.{lineEvent, lastFrame, Outcome, lineWith, eventReply, unlessRefused, bufferAfter, Told, toldOf}
-use Rattle.lines.specs.declared.PrintedLine.the-variants.{Hub as HubLine}
-use Rattle.lines.specs.Lines.{sentFields, toldFields, eventFields, printedReply}
+use Rattle.answers.specs.declared.RecordAnswer.the-variants.{Hub as HubLine}
+use Rattle.answers.specs.Lines.{sentFields, toldFields, eventFields, answerReply}
 use Rattle.playback.specs.declared.record.RecordPlayed.{RecordPlayed}
 use Rattle.playback.specs.Playing.{Played, playHub}
 use Rattle.playback.specs.Contracts.{Plays, firstFour}
@@ -42,12 +42,12 @@ hub-kept hub packets address (given made) result plays =
 -- a hub that is not made ends the run; one that is made is the hub from then on
 pub hub-refused : (hub : Hub) (address : ℕ) (made : Creation) → made .answer ≡ AddressOutOfRange → creationReply made ≡ creationOf address
     → Plays (playHub hub [] address (creationOf address)) (record { hub = hub; line = HubLine address AddressOutOfRange; ends = true }) []
-unfolding printedReply
+unfolding answerReply
 hub-refused hub address made a e = rw (sym e, a) (record { hub = refl; line = refl; ends = refl; buffer = refl })
 
 pub hub-made : (hub : Hub) (address : ℕ) (made : Creation) → made .answer ≡ Created → creationReply made ≡ creationOf address
     → Plays (playHub hub [] address (creationOf address)) (record { hub = made .hub; line = HubLine address Created; ends = false }) []
-unfolding printedReply
+unfolding answerReply
 hub-made hub address made a e = rw (sym e, a) (record { hub = refl; line = refl; ends = refl; buffer = refl })
 
 -- the first four bytes of a buffer that a packet was written into

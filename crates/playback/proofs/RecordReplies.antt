@@ -18,8 +18,8 @@ use Rattle.hub.specs.Translation.{onPort, onPorts, matching, theHub, nobody, fo
 use Rattle.frames.specs.Events.{Outcome, eventDropped, eventSent}
 use Rattle.trace.specs.Records.{TraceRecord, hubRecord, writeRecord, readRecord, writeQuestion, readQuestion, startRecord, endRecord, lineRecord}
 use Rattle.trace.specs.Records.{ifLength, lineData, kindRecord, kindOf, dataOf, hasMark, holdsRecord, recordOf}
-use Rattle.lines.specs.Texts.{ascii, hexByte, hexBytes, decimal}
-use Rattle.lines.specs.Lines.{hubFields, writeFields, readFields, deviceText, devicesText, readQuestionFields, writeQuestionFields, eventFields, fieldsText, lineText}
+use Rattle.answers.specs.Texts.{ascii, hexByte, hexBytes, decimal}
+use Rattle.answers.specs.Lines.{hubFields, writeFields, readFields, deviceText, devicesText, readQuestionFields, writeQuestionFields, eventFields, fieldsText, lineText}
 use Rattle.playback.specs.Playing.{playHub, playRecord, packetRoom}
 use Rattle.playback.proofs.EventReplies.{Sound, refusing, dropping, sending, start-sound, line-sound, end-sound}
 use Rattle.playback.proofs.TextLengths.{digits-most, one-digit, hex-most, one-port, four-ports}

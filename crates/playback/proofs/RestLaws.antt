@@ -13,7 +13,7 @@ use Rattle.laws.specs.Reply.{Reply, refused, given, isRefused}
 use Rattle.hub.specs.declared.Hub.{Hub}
 use Rattle.trace.specs.Records.{TraceRecord, holdsRecord, hasMark, recordOf, recordLength, kindRecord, kindOf, dataOf}
 use Rattle.trace.proofs.RecordLaws.{holds-whole}
-use Rattle.lines.specs.Lines.{lineText, countsText}
+use Rattle.answers.specs.Lines.{lineText, countsText}
 use Rattle.playback.specs.declared.Session.{Session}
 use Rattle.playback.specs.Playing.{Played, playRecord, usedBy, answersFrom, linesFrom, refusedAmong}
 use Rattle.playback.specs.Windows.{isFirst, sessionAfter, restText, CountsFit}

@@ -16,8 +16,8 @@ use Rattle.hub.specs.declared.translation.Remote.the-variants.{Serializer, Targ
 use Rattle.hub.specs.declared.translation.PortAnswer.{PortAnswer}
 use Rattle.hub.specs.declared.translation.PortAnswer.the-variants.{NoMatch, Device}
 use Rattle.hub.specs.Translation.{address7, isAlias, targetFrom, onPort, onPorts, matching}
-use Rattle.lines.specs.Texts.{ascii, hexByte, hexBytes, decimalFrom, decimal}
-use Rattle.lines.specs.Lines.{remoteText, deviceText, devicesText}
+use Rattle.answers.specs.Texts.{ascii, hexByte, hexBytes, decimalFrom, decimal}
+use Rattle.answers.specs.Lines.{remoteText, deviceText, devicesText}
 
 -- a number's last k digits are at most k
 pub digits-most : (k n : ℕ) → length (decimalFrom k n) ≤ k

@@ -13,7 +13,8 @@ use Rattle.laws.specs.Buffers.{written}
 use Rattle.trace.specs.Records.{TraceRecord, recordOf}
 use Rattle.lines.specs.declared.TextAnswer.{TextAnswer}
 use Rattle.lines.specs.declared.TextAnswer.the-variants.{NoRoom, Next}
-use Rattle.lines.specs.Lines.{ifTextRoom, nextPlace, afterText, textReply, lineText, printedReply}
+use Rattle.answers.specs.Lines.{lineText, answerReply}
+use Rattle.lines.specs.Room.{ifTextRoom, nextPlace, afterText, textReply}
 use Rattle.playback.specs.declared.Session.{Session}
 use Rattle.playback.specs.declared.record.RecordPlayed.{RecordPlayed}
 use Rattle.playback.specs.Playing.{Played, playRecord, usedBy}
@@ -43,8 +44,8 @@ session-same session p q h r e = rw (h, r, e)
 pub one-played : (window : List ℕ) (before : WindowState) (left : List ℕ) (found : Reply TraceRecord) (result : RecordPlayed) (packets out : List ℕ) (taken next : ℕ) (after : Session)
     → left ≡ drop (before .used) window → found ≡ recordOf (isFirst (before .session)) left → taken ≡ usedBy left found
     → Plays (playRecord (before .session .hub) (before .packets) found) result packets → after ≡ sessionAfter (before .session) (playedOf result [])
-    → next ≡ before .at + length (lineText (after .records) (printedReply (result .line)))
-    → out ≡ written (before .out) (before .at) (lineText (after .records) (printedReply (result .line)))
+    → next ≡ before .at + length (lineText (after .records) (answerReply (result .line)))
+    → out ≡ written (before .out) (before .at) (lineText (after .records) (answerReply (result .line)))
     → stateOf (record { session = after; used = before .used + taken; next = next }) packets out ≡ playOne window before
 unfolding playOne
 one-played window before left found result packets out taken next after l f t plays a n o =

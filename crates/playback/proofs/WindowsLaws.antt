@@ -11,7 +11,7 @@ use lib.Dec.{eqb, leb}
 use lib.ListN.{length, drop, length-append}
 use lib.Seq.{drop-drop}
 use Rattle.laws.proofs.Buffers.{written-nil, written-more, length-written}
-use Rattle.lines.specs.Lines.{countsText}
+use Rattle.answers.specs.Lines.{countsText}
 use Rattle.playback.specs.Playing.{playRecord, usedBy, answersFrom}
 use Rattle.playback.specs.Windows.{isFirst, sessionAfter, WindowState, mayPlay, playOne, playWindow, restText, CountsFit}
 use Rattle.playback.specs.Windows.{StartsWithAll, EndsWithCounts, PrintsNext, WindowsPrint, PlaysOut}

@@ -11,8 +11,8 @@ use Rattle.hub.specs.Hubs.{hubAt, creationOf, hubBurst, hubRead}
 use Rattle.hub.specs.Translation.{whoHearsWrite, whoAnswersRead}
 use Rattle.frames.specs.Events.{Event, startEvent, lineEvent, endEvent, eventReply, hubAfter, bufferAfter}
 use Rattle.trace.specs.Records.{TraceRecord, hubRecord, writeRecord, readRecord, writeQuestion, readQuestion, startRecord, endRecord, lineRecord, recordLength, recordOf}
-use Rattle.lines.specs.Texts.{ascii}
-use Rattle.lines.specs.Lines.{hubFields, writeFields, readFields, writeQuestionFields, readQuestionFields, eventFields, lineText, countsText}
+use Rattle.answers.specs.Texts.{ascii}
+use Rattle.answers.specs.Lines.{hubFields, writeFields, readFields, writeQuestionFields, readQuestionFields, eventFields, lineText, countsText}
 
 -- What a record does: the hub after it, its answer (the fields of its line, or the number of its refusal), the lent packet buffer after it, and whether it ends
 -- the run.

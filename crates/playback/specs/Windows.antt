@@ -10,7 +10,8 @@ use Rattle.laws.specs.Reply.{isRefused}
 use Rattle.laws.specs.Buffers.{written}
 use Rattle.hub.specs.Hubs.{hubAt}
 use Rattle.trace.specs.Records.{holdsRecord, recordOf}
-use Rattle.lines.specs.Lines.{lineText, countsText, textRoom}
+use Rattle.answers.specs.Lines.{lineText, countsText}
+use Rattle.lines.specs.Room.{textRoom}
 use Rattle.playback.specs.declared.Session.{Session}
 use Rattle.playback.specs.declared.WindowPlayed.{WindowPlayed}
 use Rattle.playback.specs.Playing.{Played, playRecord, usedBy, answersFrom, packetRoom, linesFrom, refusedAmong, playerText}

@@ -4,17 +4,17 @@ ghost use mathlib.Core.Bool.{false};
 ghost use Prim.Native.Nat.{_≤_, min};
 ghost use lib.ListN.{length, getD, replicate};
 ghost use Rattle.frames.specs.Events.{startEvent, lineEvent, endEvent};
-ghost use Rattle.lines.specs.Lines.{headerList};
-ghost use Rattle.lines.specs.Texts.{ascii};
+ghost use Rattle.answers.specs.Lines.{headerList};
+ghost use Rattle.answers.specs.Texts.{ascii};
 ghost use Rattle.playback.specs.Playing.{playEvent};
 ghost use Rattle.playback.specs.Contracts.{Plays, firstFour};
 use crate::record::RecordPlayed;
+use answers::RecordAnswer;
+use answers::event::Header;
 use frames::end;
 use frames::line;
 use frames::start;
 use hub::Hub;
-use lines::PrintedLine;
-use lines::event::Header;
 
 // Byte `i`, and 0 past the end.
 fn byte_at(bytes: &[u8], i: usize) -> u8
@@ -47,7 +47,7 @@ pub(crate) fn play_start(hub: Hub, port: u8, bits: u8, packets: &mut [u8]) -> Re
     let header = header_of(packets);
     RecordPlayed {
         hub: after,
-        line: PrintedLine::Start {
+        line: RecordAnswer::Start {
             port,
             answer,
             header,
@@ -65,7 +65,7 @@ pub(crate) fn play_end(hub: Hub, port: u8, packets: &mut [u8]) -> RecordPlayed
     let header = header_of(packets);
     RecordPlayed {
         hub: after,
-        line: PrintedLine::End {
+        line: RecordAnswer::End {
             port,
             answer,
             header,
@@ -106,7 +106,7 @@ pub(crate) fn play_line(
     let header = header_of(packets);
     RecordPlayed {
         hub,
-        line: PrintedLine::FrameLine {
+        line: RecordAnswer::FrameLine {
             port,
             answer,
             header,

@@ -4,14 +4,14 @@ ghost use Prim.Native.Nat.{_+_, _≤_};
 ghost use mathlib.Core.List.{[]};
 ghost use lib.ListN.{length, drop};
 ghost use Rattle.laws.specs.Buffers.{written};
-ghost use Rattle.lines.specs.Lines.{lineText, printedReply};
+ghost use Rattle.answers.specs.Lines.{lineText, answerReply};
 ghost use Rattle.playback.specs.Windows.{stateOf, mayPlayNext, sessionAfter, playOne};
 ghost use Rattle.playback.specs.Contracts.{playedOf};
 use crate::Session;
 use crate::WindowPlayed;
 use crate::record;
 use crate::record::RecordPlayed;
-use lines::PrintedLine;
+use answers::RecordAnswer;
 use lines::TextAnswer;
 use std::num::wrapping_add_u64;
 
@@ -39,9 +39,9 @@ pub(crate) fn may_play(session: Session, left: &[u8], last: bool, size: usize, a
 }
 
 // Puts the line of a record, and answers the next free place.
-fn put_line(number: u64, line: PrintedLine, out: &mut [u8], at: usize) -> usize
+fn put_line(number: u64, line: RecordAnswer, out: &mut [u8], at: usize) -> usize
     requires { ⌜ at + 64 ≤ length (now out) ⌝ }
-    ensures { λ r. ⌜ (r ≡ at + length (lineText number (printedReply line))) × (now (out .exit) ≡ written (now (out .entry)) at (lineText number (printedReply line))) ⌝ }
+    ensures { λ r. ⌜ (r ≡ at + length (lineText number (answerReply line))) × (now (out .exit) ≡ written (now (out .entry)) at (lineText number (answerReply line))) ⌝ }
 {
     match lines::put_line(number, line, out, at) {
         TextAnswer::NoRoom => at,
@@ -54,7 +54,7 @@ fn session_after(session: Session, played: RecordPlayed) -> Session
 {
     let hub = played.hub;
     let line = played.line;
-    let refusal = lines::is_refused(line) as u64;
+    let refusal = answers::is_refused(line) as u64;
     Session {
         hub,
         records: wrapping_add_u64(session.records, 1),

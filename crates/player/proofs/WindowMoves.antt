@@ -9,8 +9,8 @@ use native.Mathlib.Omega.{arith}
 use lib.ListN.{length, take, drop, getD, set, length-drop, length-take, length-append}
 use lib.Seq.{take-all, take-nil, getD-append-add, getD-take, getD-drop, length-take-le}
 use Rattle.laws.specs.Buffers.{written}
-use Rattle.lines.specs.Texts.{ascii, decimal}
-use Rattle.lines.specs.Lines.{countsText}
+use Rattle.answers.specs.Texts.{ascii, decimal}
+use Rattle.answers.specs.Lines.{countsText}
 use Rattle.player.specs.declared.run.Run.{Run}
 use Rattle.playback.specs.declared.WindowPlayed.{WindowPlayed}
 use Rattle.playback.specs.Windows.{WindowState, stateOf, playWindow}

@@ -30,6 +30,6 @@ fn contest(length: usize) -> Contest<'static> {
             "slicing by 16, words loaded",
             way(crc_slicing::checksum_by_words),
         )
-        .way("the same folding of words", way(crc_folding::checksum))
+        .way("folding of 64-bit words", way(crc_folding::checksum))
         .way("folding of 128-bit lanes", way(crc_wide::checksum))
 }

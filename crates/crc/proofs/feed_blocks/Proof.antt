@@ -6,7 +6,7 @@ use native.Mathlib.Omega.{arith}
 use lib.ListN.{length}
 use Rattle.crc.specs.Checksum.{crcFrom}
 use Rattle.crc.specs.WideRegister.{afterWord, afterWindow, SumOfFirst}
-use Rattle.crc.proofs.Words.{word-next, two-words-next}
+use Rattle.crc.proofs.Words.{two-words-next}
 use borrow.Author.Needs.{needs}
 use Rattle.crc.proofs.feed_blocks.Statement.{statement}
 use Rattle.crc.proofs.feed_blocks.Tie as tie
@@ -21,40 +21,23 @@ returns : tie.Need-returns Inv-loop μ-loop
 unfolding crcFrom
 returns c = record { within = omega arith; right = refl }
 
-word-requires : tie.Need-word-requires Inv-loop μ-loop
-word-requires c κs = search needs
-
-word-requires-2 : tie.Need-word-requires-2 Inv-loop μ-loop
-word-requires-2 c κs = search needs
-
-word-requires-3 : tie.Need-word-requires-3 Inv-loop μ-loop
-word-requires-3 c κs = search needs
-
-word-requires-4 : tie.Need-word-requires-4 Inv-loop μ-loop
-word-requires-4 c κs = search needs
+open-requires : tie.Need-open-requires Inv-loop μ-loop
+open-requires c κs = search needs
 
 loop-holds : tie.Need-loop-holds Inv-loop μ-loop
-unfolding crcFrom
-loop-holds c =
-    record {
-      within = omega arith;
-      right =
-          word-next _ _ 24 (c .word4 .ensures)
-          (word-next _ _ 16 (c .before .word3 .ensures)
-          (word-next _ _ 8 (c .before .before .word2 .ensures) (word-next _ _ 0 (c .before .before .before .word .ensures) refl)));
-    }
+loop-holds c = c .before .open .ensures
 
 sub-loop : tie.Need-sub-loop Inv-loop μ-loop
 sub-loop c = search needs
 
-word-requires-5 : tie.Need-word-requires-5 Inv-loop μ-loop
-word-requires-5 c κs = search needs
+word-requires : tie.Need-word-requires Inv-loop μ-loop
+word-requires c κs = search needs
 
 add-word : tie.Need-add-word Inv-loop μ-loop
 add-word c = search needs
 
-word-requires-6 : tie.Need-word-requires-6 Inv-loop μ-loop
-word-requires-6 c κs = search needs
+word-requires-2 : tie.Need-word-requires-2 Inv-loop μ-loop
+word-requires-2 c κs = search needs
 
 slide-requires : tie.Need-slide-requires Inv-loop μ-loop
 slide-requires c κs = search needs
@@ -71,8 +54,8 @@ loop-less c = search needs
 loop-again : tie.Need-loop-again Inv-loop μ-loop
 loop-again c =
     let l = c .before .before .before .before .before .loop in
-    let low = c .before .before .before .word5 in
-    let high = c .before .before .word6 in
+    let low = c .before .before .before .word in
+    let high = c .before .before .word2 in
     record {
       within = omega arith;
       right =
@@ -93,15 +76,12 @@ feed-blocks-spec =
     Inv-loop
     μ-loop
     returns
-    word-requires
-    word-requires-2
-    word-requires-3
-    word-requires-4
+    open-requires
     loop-holds
     sub-loop
-    word-requires-5
+    word-requires
     add-word
-    word-requires-6
+    word-requires-2
     slide-requires
     slide-requires-2
     add-i

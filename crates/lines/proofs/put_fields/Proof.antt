@@ -2,7 +2,7 @@
 -- Assumes nothing.
 use mathlib.Core.Path.{sym}
 use native.Mathlib.Omega.{arith}
-use Rattle.lines.specs.Lines.{printedReply, fieldsText}
+use Rattle.answers.specs.Lines.{answerReply, fieldsText}
 use Rattle.lines.proofs.PutLaws.{put-most}
 use borrow.Author.Needs.{needs}
 use Rattle.lines.proofs.put_fields.Statement.{statement}
@@ -84,49 +84,49 @@ same-length : tie.Need-same-length
 same-length c = search needs
 
 returns : tie.Need-returns
-unfolding printedReply
+unfolding answerReply
 returns c = rw (c .before .before .before .before .enum-told .given .1) (put-most 38 (omega arith) (c .before .before .put-refusal .ensures))
 
 same-length-2 : tie.Need-same-length-2
 same-length-2 c = search needs
 
 returns-2 : tie.Need-returns-2
-unfolding printedReply
+unfolding answerReply
 returns-2 c = rw (c .before .before .before .before .before .line .given .1) (put-most 38 (omega arith) (c .before .before .put-hub .ensures))
 
 same-length-3 : tie.Need-same-length-3
 same-length-3 c = search needs
 
 returns-3 : tie.Need-returns-3
-unfolding printedReply fieldsText
+unfolding answerReply fieldsText
 returns-3 c = rw (c .before .before .before .before .before .line2 .given .1) (put-most 38 (omega arith) (c .before .before .put-write .ensures))
 
 same-length-4 : tie.Need-same-length-4
 same-length-4 c = search needs
 
 returns-4 : tie.Need-returns-4
-unfolding printedReply fieldsText
+unfolding answerReply fieldsText
 returns-4 c = rw (c .before .before .before .before .before .line3 .given .1) (put-most 38 (omega arith) (c .before .before .put-read .ensures))
 
 same-length-5 : tie.Need-same-length-5
 same-length-5 c = search needs
 
 returns-5 : tie.Need-returns-5
-unfolding printedReply
+unfolding answerReply
 returns-5 c = rw (c .before .before .before .before .before .line4 .given .1) (c .before .before .put-write-question .ensures)
 
 same-length-6 : tie.Need-same-length-6
 same-length-6 c = search needs
 
 returns-6 : tie.Need-returns-6
-unfolding printedReply
+unfolding answerReply
 returns-6 c = rw (c .before .before .before .before .before .line5 .given .1) (c .before .before .put-read-question .ensures)
 
 same-length-7 : tie.Need-same-length-7
 same-length-7 c = search needs
 
 returns-7 : tie.Need-returns-7
-unfolding printedReply
+unfolding answerReply
 returns-7 c =
     let put = c .before .before in
     rw (put .before .before .before .before .before .line6 .given .1, sym (put .before .of-start .ensures)) (put-most 38 (omega arith) (put .put-event .ensures))
@@ -135,7 +135,7 @@ same-length-8 : tie.Need-same-length-8
 same-length-8 c = search needs
 
 returns-8 : tie.Need-returns-8
-unfolding printedReply
+unfolding answerReply
 returns-8 c =
     let put = c .before .before in
     rw (put .before .before .before .before .before .line7 .given .1, sym (put .before .of-line .ensures)) (put-most 38 (omega arith) (put .put-event2 .ensures))
@@ -144,7 +144,7 @@ same-length-9 : tie.Need-same-length-9
 same-length-9 c = search needs
 
 returns-9 : tie.Need-returns-9
-unfolding printedReply
+unfolding answerReply
 returns-9 c =
     let put = c .before .before in
     rw (put .before .before .before .before .before .line8 .given .1, sym (put .before .of-end .ensures)) (put-most 38 (omega arith) (put .put-event3 .ensures))

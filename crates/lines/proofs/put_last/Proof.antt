@@ -1,7 +1,7 @@
 -- `lines::put_last` meets its contract: its parts, one behind the other.
 -- Assumes nothing.
 use borrow.Author.Needs.{needs}
-use Rattle.lines.specs.Lines.{countsText}
+use Rattle.answers.specs.Lines.{countsText}
 use Rattle.lines.proofs.PutLaws.{put-then}
 use Rattle.lines.proofs.put_last.Statement.{statement}
 use Rattle.lines.proofs.put_last.Tie as tie

@@ -1,7 +1,7 @@
 -- `lines::put_numbered` meets its contract: its parts, one behind the other.
 -- Assumes nothing.
 use borrow.Author.Needs.{needs}
-use Rattle.lines.specs.Lines.{lineText}
+use Rattle.answers.specs.Lines.{lineText}
 use Rattle.lines.proofs.PutLaws.{put-then}
 use Rattle.lines.proofs.put_numbered.Statement.{statement}
 use Rattle.lines.proofs.put_numbered.Tie as tie

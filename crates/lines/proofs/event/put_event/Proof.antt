@@ -1,7 +1,7 @@
 -- `lines::event::put_event` meets its contract, by the cases of the answer.
 -- Assumes nothing.
 use native.Mathlib.Omega.{arith}
-use Rattle.lines.specs.Lines.{fieldsText}
+use Rattle.answers.specs.Lines.{fieldsText}
 use Rattle.lines.proofs.PutLaws.{put-most}
 use borrow.Author.Needs.{needs}
 use Rattle.lines.proofs.event.put_event.Statement.{statement}

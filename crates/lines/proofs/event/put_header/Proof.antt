@@ -1,7 +1,7 @@
 -- `lines::event::put_header` meets its contract: four bytes, one behind the other.
 -- Assumes nothing.
 use borrow.Author.Needs.{needs}
-use Rattle.lines.specs.Texts.{hexByte}
+use Rattle.answers.specs.Texts.{hexByte}
 use Rattle.lines.proofs.PutLaws.{put-then}
 use Rattle.lines.proofs.event.put_header.Statement.{statement}
 use Rattle.lines.proofs.event.put_header.Tie as tie

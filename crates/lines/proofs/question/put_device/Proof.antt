@@ -1,7 +1,7 @@
 -- `lines::question::put_device` meets its contract: its fields, one behind the other.
 -- Assumes nothing.
 use borrow.Author.Needs.{needs}
-use Rattle.lines.specs.Lines.{deviceText}
+use Rattle.answers.specs.Lines.{deviceText}
 use Rattle.lines.proofs.PutLaws.{put-then}
 use Rattle.lines.proofs.question.put_device.Statement.{statement}
 use Rattle.lines.proofs.question.put_device.Tie as tie

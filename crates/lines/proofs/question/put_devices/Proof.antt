@@ -3,7 +3,7 @@
 use mathlib.Core.List.{append-assoc, append-nil}
 use native.Mathlib.Omega.{arith}
 use borrow.Author.Needs.{needs}
-use Rattle.lines.specs.Lines.{devicesText}
+use Rattle.answers.specs.Lines.{devicesText}
 use Rattle.lines.proofs.PutLaws.{put-most, put-then}
 use Rattle.lines.proofs.question.put_devices.Statement.{statement}
 use Rattle.lines.proofs.question.put_devices.Tie as tie

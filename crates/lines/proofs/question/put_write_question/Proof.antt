@@ -2,8 +2,8 @@
 -- Assumes nothing.
 use native.Mathlib.Omega.{arith}
 use borrow.Author.Needs.{needs}
-use Rattle.lines.specs.Texts.{hexByte}
-use Rattle.lines.specs.Lines.{fieldsText}
+use Rattle.answers.specs.Texts.{hexByte}
+use Rattle.answers.specs.Lines.{fieldsText}
 use Rattle.lines.proofs.PutLaws.{put-most, put-then}
 use Rattle.lines.proofs.question.put_write_question.Statement.{statement}
 use Rattle.lines.proofs.question.put_write_question.Tie as tie

@@ -1,7 +1,7 @@
 -- `lines::refusal::put_refusal` meets its contract: the mark, and the number behind it.
 -- Assumes nothing.
 use borrow.Author.Needs.{needs}
-use Rattle.lines.specs.Lines.{fieldsText}
+use Rattle.answers.specs.Lines.{fieldsText}
 use Rattle.lines.proofs.PutLaws.{put-then}
 use Rattle.lines.proofs.refusal.put_refusal.Statement.{statement}
 use Rattle.lines.proofs.refusal.put_refusal.Tie as tie

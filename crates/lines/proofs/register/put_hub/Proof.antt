@@ -2,7 +2,7 @@
 -- Assumes nothing.
 use native.Mathlib.Omega.{arith}
 use borrow.Author.Needs.{needs}
-use Rattle.lines.specs.Lines.{fieldsText}
+use Rattle.answers.specs.Lines.{fieldsText}
 use Rattle.lines.proofs.PutLaws.{put-most, put-then}
 use Rattle.lines.proofs.register.put_hub.Statement.{statement}
 use Rattle.lines.proofs.register.put_hub.Tie as tie

@@ -2,7 +2,7 @@
 -- Assumes nothing.
 use borrow.Author.Needs.{needs}
 use borrow.Author.Tests.{lt-ltb, le-ltb}
-use Rattle.lines.specs.Texts.{hexDigit}
+use Rattle.answers.specs.Texts.{hexDigit}
 use Rattle.lines.proofs.text.hex_digit.Statement.{statement}
 use Rattle.lines.proofs.text.hex_digit.Tie as tie
 

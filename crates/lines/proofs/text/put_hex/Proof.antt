@@ -5,7 +5,7 @@ use Prim.Native.Nat.{_+_, _≤_}
 use native.Mathlib.Omega.{arith}
 use lib.ListN.{length, set, length-set}
 use borrow.Author.Needs.{needs}
-use Rattle.lines.specs.Texts.{hexByte}
+use Rattle.answers.specs.Texts.{hexByte}
 use Rattle.lines.proofs.PutLaws.{put-one, put-then}
 use Rattle.lines.proofs.text.put_hex.Statement.{statement}
 use Rattle.lines.proofs.text.put_hex.Tie as tie

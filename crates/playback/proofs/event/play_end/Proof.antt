@@ -2,8 +2,8 @@
 -- Assumes nothing.
 use mathlib.Core.Path.{refl}
 use lib.ListN.{length}
-use Rattle.lines.specs.Lines.{printedReply}
-use Rattle.lines.specs.Texts.{ascii}
+use Rattle.answers.specs.Lines.{answerReply}
+use Rattle.answers.specs.Texts.{ascii}
 use Rattle.playback.proofs.EventReplies.{end-sound}
 use Rattle.playback.proofs.RecordPlays.{event-told}
 use borrow.Author.Needs.{needs}
@@ -20,7 +20,7 @@ same-length : tie.Need-same-length
 same-length c = search needs
 
 returns : tie.Need-returns
-unfolding printedReply
+unfolding answerReply
 returns c =
     let e = c .before .before .before .before .before in
     let x = e .before .before .before .args in

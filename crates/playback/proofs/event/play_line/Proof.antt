@@ -3,8 +3,8 @@
 use mathlib.Core.Path.{refl, ap, _∙_}
 use lib.ListN.{length, replicate}
 use Rattle.frames.specs.Events.{lineEvent, eventReply, bufferAfter, toldOf}
-use Rattle.lines.specs.Lines.{printedReply}
-use Rattle.lines.specs.Texts.{ascii}
+use Rattle.answers.specs.Lines.{answerReply}
+use Rattle.answers.specs.Texts.{ascii}
 use Rattle.playback.proofs.EventReplies.{line-sound}
 use Rattle.playback.proofs.RecordPlays.{event-told, line-keeps, lent-reply}
 use borrow.Author.Needs.{needs}
@@ -36,7 +36,7 @@ same-length : tie.Need-same-length
 same-length c = search needs
 
 returns : tie.Need-returns
-unfolding printedReply
+unfolding answerReply
 returns c =
     let sent = c .before .before .before .before in
     let wide = sent .before .before .before .before in

@@ -2,7 +2,7 @@
 -- Assumes nothing.
 use mathlib.Core.Path.{refl, ap}
 use Rattle.laws.specs.Reply.{onReply}
-use Rattle.lines.specs.Lines.{readQuestionFields, printedReply}
+use Rattle.answers.specs.Lines.{readQuestionFields, answerReply}
 use Rattle.playback.specs.Playing.{playRecord}
 use borrow.Author.Needs.{needs}
 use Rattle.playback.proofs.record.play_read_question.Statement.{statement}
@@ -12,7 +12,7 @@ who-answers-read-requires : tie.Need-who-answers-read-requires
 who-answers-read-requires c κs = search needs
 
 returns : tie.Need-returns
-unfolding printedReply playRecord
+unfolding answerReply playRecord
 returns c = record { hub = refl; line = ap (onReply (readQuestionFields (c .before .args .address))) (c .who-answers-read .ensures); ends = refl; buffer = refl }
 
 pub play-read-question-spec : {M : Type 1} → statement M

@@ -1,7 +1,7 @@
 -- `playback::record::play_write` meets its contract.
 -- Assumes nothing.
 use mathlib.Core.Path.{refl}
-use Rattle.lines.specs.Lines.{printedReply}
+use Rattle.answers.specs.Lines.{answerReply}
 use Rattle.playback.specs.Playing.{playRecord}
 use borrow.Author.Needs.{needs}
 use Rattle.playback.proofs.record.play_write.Statement.{statement}
@@ -11,7 +11,7 @@ burst-requires : tie.Need-burst-requires
 burst-requires c κs = search needs
 
 returns : tie.Need-returns
-unfolding printedReply playRecord
+unfolding answerReply playRecord
 returns c = record { hub = c .burst .ensures; line = refl; ends = refl; buffer = refl }
 
 pub play-write-spec : {M : Type 1} → statement M

@@ -2,7 +2,7 @@
 -- Assumes nothing.
 use mathlib.Core.Path.{refl, ap}
 use Rattle.laws.specs.Reply.{onReply}
-use Rattle.lines.specs.Lines.{writeQuestionFields, printedReply}
+use Rattle.answers.specs.Lines.{writeQuestionFields, answerReply}
 use Rattle.playback.specs.Playing.{playRecord}
 use borrow.Author.Needs.{needs}
 use Rattle.playback.proofs.record.play_write_question.Statement.{statement}
@@ -12,7 +12,7 @@ who-hears-write-requires : tie.Need-who-hears-write-requires
 who-hears-write-requires c κs = search needs
 
 returns : tie.Need-returns
-unfolding printedReply playRecord
+unfolding answerReply playRecord
 returns c = record { hub = refl; line = ap (onReply (writeQuestionFields (c .before .args .address))) (c .who-hears-write .ensures); ends = refl; buffer = refl }
 
 pub play-write-question-spec : {M : Type 1} → statement M

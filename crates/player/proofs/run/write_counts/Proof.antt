@@ -3,7 +3,7 @@
 use Prim.Native.Nat.{ℕ}
 use native.Mathlib.Omega.{arith}
 use lib.ListN.{replicate, length-replicate}
-use Rattle.lines.specs.Lines.{countsText}
+use Rattle.answers.specs.Lines.{countsText}
 use Rattle.playback.proofs.WindowPlays.{place-behind}
 use Rattle.player.proofs.WindowMoves.{counts-short}
 use borrow.Author.Needs.{needs}

@@ -1,13 +1,9 @@
 -- The lines that the player prints: document 01, "The trace and the player".
 -- Assumes nothing.
-use mathlib.Core.Bool.{cond}
 use mathlib.Core.List.{List, [], _∷_, _++_}
-use mathlib.Core.Option.{Option, none, some}
 use Prim.Native.Nat.{ℕ, _+_}
-use lib.Dec.{leb}
-use lib.ListN.{length, take}
+use lib.ListN.{take}
 use Rattle.laws.specs.Reply.{Reply, refused, given, onReply}
-use Rattle.laws.specs.Buffers.{written}
 use Rattle.hub.specs.declared.CreationAnswer.{CreationAnswer}
 use Rattle.hub.specs.declared.CreationAnswer.the-variants.{AddressOutOfRange, Created}
 use Rattle.hub.specs.declared.translation.Remote.{Remote}
@@ -15,12 +11,12 @@ use Rattle.hub.specs.declared.translation.Remote.the-variants.{Serializer, Targ
 use Rattle.hub.specs.declared.translation.PortDevice.{PortDevice}
 use Rattle.hub.specs.Translation.{Addressed, theHub, nobody, found, writeReply, readReply}
 use Rattle.frames.specs.Events.{Outcome, eventDropped, eventSent, Told, wasDropped, wasSent, startAnswerReply, lineAnswerReply, endAnswerReply}
-use Rattle.lines.specs.declared.event.Header.{Header}
-use Rattle.lines.specs.declared.PrintedLine.{PrintedLine}
-use Rattle.lines.specs.declared.PrintedLine.the-variants.{NoRecord, Hub, Write, Read, WriteQuestion, ReadQuestion, Start, FrameLine, End}
-use Rattle.lines.specs.declared.TextAnswer.{TextAnswer}
-use Rattle.lines.specs.declared.TextAnswer.the-variants.{NoRoom, Next}
-use Rattle.lines.specs.Texts.{ascii, hexByte, hexBytes, decimal}
+use Rattle.answers.specs.declared.event.Header.{Header}
+use Rattle.answers.specs.declared.event.EventAnswer.{EventAnswer}
+use Rattle.answers.specs.declared.event.EventAnswer.the-variants.{Refused, Dropped, Sent}
+use Rattle.answers.specs.declared.RecordAnswer.{RecordAnswer}
+use Rattle.answers.specs.declared.RecordAnswer.the-variants.{NoRecord, Hub, Write, Read, WriteQuestion, ReadQuestion, Start, FrameLine, End}
+use Rattle.answers.specs.Texts.{ascii, hexByte, hexBytes, decimal}
 
 -- "H address."
 abbrev pub hubFields : ℕ → List ℕ
@@ -94,32 +90,19 @@ abbrev pub toldFields : List ℕ → ℕ → List ℕ → Told → List ℕ
 toldFields letter port header wasDropped = droppedFields letter port
 toldFields letter port header (wasSent csi count) = sentFields letter port csi header
 
-unfoldable pub printedReply : PrintedLine → Reply (List ℕ)
-printedReply NoRecord = refused 13
-printedReply (Hub address answer) = hubLine address answer
-printedReply (Write offset count) = given (writeFields offset count)
-printedReply (Read offset value) = given (readFields offset value)
-printedReply (WriteQuestion address answer) = onReply (writeQuestionFields address) (writeReply answer)
-printedReply (ReadQuestion address answer) = onReply (readQuestionFields address) (readReply answer)
-printedReply (Start port answer header) = onReply (toldFields (ascii "S") port (headerList header)) (startAnswerReply answer)
-printedReply (FrameLine port answer header) = onReply (toldFields (ascii "L") port (headerList header)) (lineAnswerReply answer)
-printedReply (End port answer header) = onReply (toldFields (ascii "E") port (headerList header)) (endAnswerReply answer)
+-- what a frame event was answered, whichever event it was
+abbrev pub eventAnswerReply : EventAnswer → Reply Told
+eventAnswerReply (Refused number) = refused number
+eventAnswerReply Dropped = given wasDropped
+eventAnswerReply (Sent csi bytes) = given (wasSent csi bytes)
 
--- A text goes into a lent buffer where 64 bytes are free from the place on, more than any line needs; otherwise nothing is written. (Ours: no refusal of the papers.)
-abbrev pub textRoom : ℕ
-textRoom = 64
-
-abbrev pub ifTextRoom : ℕ → ℕ → List ℕ → Option (List ℕ)
-ifTextRoom size at text = cond (leb (at + textRoom) size) (some text) none
-
-abbrev pub afterText : List ℕ → ℕ → Option (List ℕ) → List ℕ
-afterText buffer at none = buffer
-afterText buffer at (some text) = written buffer at text
-
-abbrev pub nextPlace : ℕ → Option (List ℕ) → Option ℕ
-nextPlace at none = none
-nextPlace at (some text) = some (at + length text)
-
-abbrev pub textReply : TextAnswer → Option ℕ
-textReply NoRoom = none
-textReply (Next place) = some place
+unfoldable pub answerReply : RecordAnswer → Reply (List ℕ)
+answerReply NoRecord = refused 13
+answerReply (Hub address answer) = hubLine address answer
+answerReply (Write offset count) = given (writeFields offset count)
+answerReply (Read offset value) = given (readFields offset value)
+answerReply (WriteQuestion address answer) = onReply (writeQuestionFields address) (writeReply answer)
+answerReply (ReadQuestion address answer) = onReply (readQuestionFields address) (readReply answer)
+answerReply (Start port answer header) = onReply (toldFields (ascii "S") port (headerList header)) (startAnswerReply answer)
+answerReply (FrameLine port answer header) = onReply (toldFields (ascii "L") port (headerList header)) (lineAnswerReply answer)
+answerReply (End port answer header) = onReply (toldFields (ascii "E") port (headerList header)) (endAnswerReply answer)

@@ -1,8 +1,8 @@
--- `lines::told::of_line` meets its contract, by the cases of the answer.
+-- `answers::event::of_end` meets its contract, by the cases of the answer.
 -- Assumes nothing.
 use borrow.Author.Needs.{needs}
-use Rattle.lines.proofs.told.of_line.Statement.{statement}
-use Rattle.lines.proofs.told.of_line.Tie as tie
+use Rattle.answers.proofs.event.of_end.Statement.{statement}
+use Rattle.answers.proofs.event.of_end.Tie as tie
 
 enum-told : tie.Need-enum-told
 enum-told c = search needs
@@ -15,15 +15,6 @@ enum-told-3 c = search needs
 
 enum-told-4 : tie.Need-enum-told-4
 enum-told-4 c = search needs
-
-enum-told-5 : tie.Need-enum-told-5
-enum-told-5 c = search needs
-
-enum-told-6 : tie.Need-enum-told-6
-enum-told-6 c = search needs
-
-enum-told-7 : tie.Need-enum-told-7
-enum-told-7 c = search needs
 
 enum-known-answer : tie.Need-enum-known-answer
 enum-known-answer c = search needs
@@ -41,34 +32,19 @@ returns-4 : tie.Need-returns-4
 returns-4 c = search needs
 
 returns-5 : tie.Need-returns-5
-returns-5 c = search needs
+returns-5 c = rw (c .before .answer .given .1)
 
-returns-6 : tie.Need-returns-6
-returns-6 c = search needs
-
-returns-7 : tie.Need-returns-7
-returns-7 c = search needs
-
-returns-8 : tie.Need-returns-8
-returns-8 c = rw (c .before .answer .given .1)
-
-pub of-line-spec : {M : Type 1} → statement M
-of-line-spec =
+pub of-end-spec : {M : Type 1} → statement M
+of-end-spec =
     tie.close
     (tie.spec
     enum-told
     enum-told-2
     enum-told-3
     enum-told-4
-    enum-told-5
-    enum-told-6
-    enum-told-7
     enum-known-answer
     returns
     returns-2
     returns-3
     returns-4
-    returns-5
-    returns-6
-    returns-7
-    returns-8)
+    returns-5)

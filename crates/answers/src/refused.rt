@@ -2,7 +2,8 @@
 ghost use mathlib.Core.Path.{_≡_};
 ghost use Rattle.laws.specs.Reply.{isRefused};
 ghost use Rattle.hub.specs.Translation.{writeReply, readReply};
-ghost use Rattle.lines.specs.Lines.{hubLine};
+ghost use Rattle.answers.specs.Lines.{hubLine, eventAnswerReply};
+use crate::event::EventAnswer;
 use hub::CreationAnswer;
 use hub::translation::ReadAnswer;
 use hub::translation::WriteAnswer;
@@ -36,5 +37,15 @@ pub(crate) fn hub_refused(address: u8, answer: CreationAnswer) -> bool
     match answer {
         CreationAnswer::AddressOutOfRange => true,
         CreationAnswer::Created => false,
+    }
+}
+
+pub(crate) fn event_refused(answer: EventAnswer) -> bool
+    ensures { λ r. ⌜ r ≡ isRefused (eventAnswerReply answer) ⌝ }
+{
+    match answer {
+        EventAnswer::Refused(_) => true,
+        EventAnswer::Dropped => false,
+        EventAnswer::Sent { csi: _, bytes: _ } => false,
     }
 }

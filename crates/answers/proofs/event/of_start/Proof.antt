@@ -1,8 +1,8 @@
--- `lines::told::of_start` meets its contract, by the cases of the answer.
+-- `answers::event::of_start` meets its contract, by the cases of the answer.
 -- Assumes nothing.
 use borrow.Author.Needs.{needs}
-use Rattle.lines.proofs.told.of_start.Statement.{statement}
-use Rattle.lines.proofs.told.of_start.Tie as tie
+use Rattle.answers.proofs.event.of_start.Statement.{statement}
+use Rattle.answers.proofs.event.of_start.Tie as tie
 
 enum-told : tie.Need-enum-told
 enum-told c = search needs

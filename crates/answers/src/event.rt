@@ -1,19 +1,26 @@
-// What a frame event was answered, whichever event it was.
+// What a frame event was answered, whichever event it was, and the header of its packet.
 ghost use mathlib.Core.Path.{_≡_};
-ghost use Rattle.laws.specs.Reply.{isRefused};
 ghost use Rattle.frames.specs.Events.{startAnswerReply, lineAnswerReply, endAnswerReply};
-ghost use Rattle.lines.specs.Putting.{eventAnswerReply};
+ghost use Rattle.answers.specs.Lines.{eventAnswerReply};
 use frames::end::EndAnswer;
 use frames::line::LineAnswer;
 use frames::start::StartAnswer;
 
-pub(crate) enum EventAnswer {
+// The four bytes of a packet header.
+pub struct Header {
+    pub data_identifier: u8,
+    pub word_count_low: u8,
+    pub word_count_high: u8,
+    pub check_byte: u8,
+}
+
+pub enum EventAnswer {
     Refused(u8),
     Dropped,
     Sent { csi: u8, bytes: usize },
 }
 
-pub(crate) fn of_start(answer: StartAnswer) -> EventAnswer
+pub fn of_start(answer: StartAnswer) -> EventAnswer
     ensures { λ r. ⌜ eventAnswerReply r ≡ startAnswerReply answer ⌝ }
 {
     match answer {
@@ -26,7 +33,7 @@ pub(crate) fn of_start(answer: StartAnswer) -> EventAnswer
     }
 }
 
-pub(crate) fn of_line(answer: LineAnswer) -> EventAnswer
+pub fn of_line(answer: LineAnswer) -> EventAnswer
     ensures { λ r. ⌜ eventAnswerReply r ≡ lineAnswerReply answer ⌝ }
 {
     match answer {
@@ -41,7 +48,7 @@ pub(crate) fn of_line(answer: LineAnswer) -> EventAnswer
     }
 }
 
-pub(crate) fn of_end(answer: EndAnswer) -> EventAnswer
+pub fn of_end(answer: EndAnswer) -> EventAnswer
     ensures { λ r. ⌜ eventAnswerReply r ≡ endAnswerReply answer ⌝ }
 {
     match answer {
@@ -50,15 +57,5 @@ pub(crate) fn of_end(answer: EndAnswer) -> EventAnswer
         EndAnswer::NoRoom => EventAnswer::Refused(8),
         EndAnswer::Dropped => EventAnswer::Dropped,
         EndAnswer::Sent { csi, bytes } => EventAnswer::Sent { csi, bytes },
-    }
-}
-
-pub(crate) fn is_refused(answer: EventAnswer) -> bool
-    ensures { λ r. ⌜ r ≡ isRefused (eventAnswerReply answer) ⌝ }
-{
-    match answer {
-        EventAnswer::Refused(_) => true,
-        EventAnswer::Dropped => false,
-        EventAnswer::Sent { csi: _, bytes: _ } => false,
     }
 }
