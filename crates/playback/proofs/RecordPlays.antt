@@ -30,7 +30,7 @@ use Rattle.csi2.proofs.CheckLaws.{width-over}
 -- a record that touches no packet leaves the lent buffer as it is
 pub plays-kept : (p q : Played) (result : RecordPlayed) (packets : List ℕ) → p .hub ≡ q .hub → p .reply ≡ q .reply → p .ends ≡ q .ends
     → packets ≡ q .packets → Plays p result [] → Plays q result packets
-plays-kept p q result packets h r e b plays = record { hub = plays .hub ∙ h; line = plays .line ∙ r; ends = plays .ends ∙ e; buffer = b }
+plays-kept p q result packets h r e b plays = record { hub = plays .hub ∙ h; reply = plays .reply ∙ r; ends = plays .ends ∙ e; buffer = b }
 
 pub hub-kept : (hub : Hub) (packets : List ℕ) (address : ℕ) (reply : Reply Hub) (result : RecordPlayed)
     → Plays (playHub hub [] address reply) result [] → Plays (playHub hub packets address reply) result packets
@@ -41,14 +41,14 @@ hub-kept hub packets address (given made) result plays =
 
 -- a hub that is not made ends the run; one that is made is the hub from then on
 pub hub-refused : (hub : Hub) (address : ℕ) (made : Creation) → made .answer ≡ AddressOutOfRange → creationReply made ≡ creationOf address
-    → Plays (playHub hub [] address (creationOf address)) (record { hub = hub; line = HubLine address AddressOutOfRange; ends = true }) []
+    → Plays (playHub hub [] address (creationOf address)) (record { hub = hub; answer = HubLine address AddressOutOfRange; ends = true }) []
 unfolding answerReply
-hub-refused hub address made a e = rw (sym e, a) (record { hub = refl; line = refl; ends = refl; buffer = refl })
+hub-refused hub address made a e = rw (sym e, a) (record { hub = refl; reply = refl; ends = refl; buffer = refl })
 
 pub hub-made : (hub : Hub) (address : ℕ) (made : Creation) → made .answer ≡ Created → creationReply made ≡ creationOf address
-    → Plays (playHub hub [] address (creationOf address)) (record { hub = made .hub; line = HubLine address Created; ends = false }) []
+    → Plays (playHub hub [] address (creationOf address)) (record { hub = made .hub; answer = HubLine address Created; ends = false }) []
 unfolding answerReply
-hub-made hub address made a e = rw (sym e, a) (record { hub = refl; line = refl; ends = refl; buffer = refl })
+hub-made hub address made a e = rw (sym e, a) (record { hub = refl; reply = refl; ends = refl; buffer = refl })
 
 -- the first four bytes of a buffer that a packet was written into
 first-four-written : (d packet : List ℕ) → 4 ≤ length packet → firstFour (written d 0 packet) ≡ take 4 packet

@@ -44,14 +44,14 @@ session-same session p q h r e = rw (h, r, e)
 pub one-played : (window : List ℕ) (before : WindowState) (left : List ℕ) (found : Reply TraceRecord) (result : RecordPlayed) (packets out : List ℕ) (taken next : ℕ) (after : Session)
     → left ≡ drop (before .used) window → found ≡ recordOf (isFirst (before .session)) left → taken ≡ usedBy left found
     → Plays (playRecord (before .session .hub) (before .packets) found) result packets → after ≡ sessionAfter (before .session) (playedOf result [])
-    → next ≡ before .at + length (lineText (after .records) (answerReply (result .line)))
-    → out ≡ written (before .out) (before .at) (lineText (after .records) (answerReply (result .line)))
+    → next ≡ before .at + length (lineText (after .records) (answerReply (result .answer)))
+    → out ≡ written (before .out) (before .at) (lineText (after .records) (answerReply (result .answer)))
     → stateOf (record { session = after; used = before .used + taken; next = next }) packets out ≡ playOne window before
 unfolding playOne
 one-played window before left found result packets out taken next after l f t plays a n o =
     let played = playRecord (before .session .hub) (before .packets) found in
-    let moved = a ∙ session-same (before .session) (playedOf result []) played (plays .hub) (plays .line) (plays .ends) in
-    rw (n, o, t, moved, plays .line, plays .buffer, f, l)
+    let moved = a ∙ session-same (before .session) (playedOf result []) played (plays .hub) (plays .reply) (plays .ends) in
+    rw (n, o, t, moved, plays .reply, plays .buffer, f, l)
 
 -- the test of the loop
 pub no-room : (a : Bool) {b : Bool} → b ≡ false → false ≡ (a && b)

@@ -11,13 +11,13 @@ use Rattle.playback.specs.Playing.{Played}
 -- a record was played as the definition says, and the lent packet buffer is as it says
 pub record Plays (played : Played) (result : RecordPlayed) (packets : List ℕ) : Type 0 where
   pub hub : result .hub ≡ played .hub
-  pub line : answerReply (result .line) ≡ played .reply
+  pub reply : answerReply (result .answer) ≡ played .reply
   pub ends : result .ends ≡ played .ends
   pub buffer : packets ≡ played .packets
 
 -- what was played, and the lent packet buffer after it, as the definition has it
 abbrev pub playedOf : RecordPlayed → List ℕ → Played
-playedOf result packets = record { hub = result .hub; reply = answerReply (result .line); packets = packets; ends = result .ends }
+playedOf result packets = record { hub = result .hub; reply = answerReply (result .answer); packets = packets; ends = result .ends }
 
 -- the four bytes at the start
 abbrev pub firstFour : List ℕ → List ℕ

@@ -47,7 +47,7 @@ pub(crate) fn play_start(hub: Hub, port: u8, bits: u8, packets: &mut [u8]) -> Re
     let header = header_of(packets);
     RecordPlayed {
         hub: after,
-        line: RecordAnswer::Start {
+        answer: RecordAnswer::Start {
             port,
             answer,
             header,
@@ -65,7 +65,7 @@ pub(crate) fn play_end(hub: Hub, port: u8, packets: &mut [u8]) -> RecordPlayed
     let header = header_of(packets);
     RecordPlayed {
         hub: after,
-        line: RecordAnswer::End {
+        answer: RecordAnswer::End {
             port,
             answer,
             header,
@@ -106,7 +106,7 @@ pub(crate) fn play_line(
     let header = header_of(packets);
     RecordPlayed {
         hub,
-        line: RecordAnswer::FrameLine {
+        answer: RecordAnswer::FrameLine {
             port,
             answer,
             header,

@@ -16,7 +16,7 @@ use trace::FoundRecord;
 // The hub after a record, what the record was answered, and whether it ends the run.
 pub(crate) struct RecordPlayed {
     pub hub: Hub,
-    pub line: RecordAnswer,
+    pub answer: RecordAnswer,
     pub ends: bool,
 }
 
@@ -29,7 +29,7 @@ fn play_hub(hub: Hub, address: u8) -> RecordPlayed
     match answer {
         CreationAnswer::AddressOutOfRange => RecordPlayed {
             hub,
-            line: RecordAnswer::Hub {
+            answer: RecordAnswer::Hub {
                 address,
                 answer: CreationAnswer::AddressOutOfRange,
             },
@@ -37,7 +37,7 @@ fn play_hub(hub: Hub, address: u8) -> RecordPlayed
         },
         CreationAnswer::Created => RecordPlayed {
             hub: after,
-            line: RecordAnswer::Hub {
+            answer: RecordAnswer::Hub {
                 address,
                 answer: CreationAnswer::Created,
             },
@@ -52,7 +52,7 @@ fn play_write(hub: Hub, offset: u8, values: &[u8]) -> RecordPlayed
     let after = hub::burst(hub, offset, values);
     RecordPlayed {
         hub: after,
-        line: RecordAnswer::Write {
+        answer: RecordAnswer::Write {
             offset,
             count: values.len() as u64,
         },
@@ -66,7 +66,7 @@ fn play_read(hub: Hub, offset: u8) -> RecordPlayed
     let value = hub::read(hub, offset);
     RecordPlayed {
         hub,
-        line: RecordAnswer::Read { offset, value },
+        answer: RecordAnswer::Read { offset, value },
         ends: false,
     }
 }
@@ -77,7 +77,7 @@ fn play_write_question(hub: Hub, address: u8) -> RecordPlayed
     let answer = translation::who_hears_write(hub, address);
     RecordPlayed {
         hub,
-        line: RecordAnswer::WriteQuestion { address, answer },
+        answer: RecordAnswer::WriteQuestion { address, answer },
         ends: false,
     }
 }
@@ -88,7 +88,7 @@ fn play_read_question(hub: Hub, address: u8) -> RecordPlayed
     let answer = translation::who_answers_read(hub, address);
     RecordPlayed {
         hub,
-        line: RecordAnswer::ReadQuestion { address, answer },
+        answer: RecordAnswer::ReadQuestion { address, answer },
         ends: false,
     }
 }
@@ -98,7 +98,7 @@ fn play_none(hub: Hub) -> RecordPlayed
 {
     RecordPlayed {
         hub,
-        line: RecordAnswer::NoRecord,
+        answer: RecordAnswer::NoRecord,
         ends: true,
     }
 }

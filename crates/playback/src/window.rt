@@ -39,11 +39,11 @@ pub(crate) fn may_play(session: Session, left: &[u8], last: bool, size: usize, a
 }
 
 // Puts the line of a record, and answers the next free place.
-fn put_line(number: u64, line: RecordAnswer, out: &mut [u8], at: usize) -> usize
+fn put_line(number: u64, answer: RecordAnswer, out: &mut [u8], at: usize) -> usize
     requires { ⌜ at + 64 ≤ length (now out) ⌝ }
-    ensures { λ r. ⌜ (r ≡ at + length (lineText number (answerReply line))) × (now (out .exit) ≡ written (now (out .entry)) at (lineText number (answerReply line))) ⌝ }
+    ensures { λ r. ⌜ (r ≡ at + length (lineText number (answerReply answer))) × (now (out .exit) ≡ written (now (out .entry)) at (lineText number (answerReply answer))) ⌝ }
 {
-    match lines::put_line(number, line, out, at) {
+    match lines::put_line(number, answer, out, at) {
         TextAnswer::NoRoom => at,
         TextAnswer::Next(next) => next,
     }
@@ -53,8 +53,8 @@ fn session_after(session: Session, played: RecordPlayed) -> Session
     ensures { λ r. ⌜ r ≡ sessionAfter session (playedOf played []) ⌝ }
 {
     let hub = played.hub;
-    let line = played.line;
-    let refusal = answers::is_refused(line) as u64;
+    let answer = played.answer;
+    let refusal = answers::is_refused(answer) as u64;
     Session {
         hub,
         records: wrapping_add_u64(session.records, 1),
@@ -81,8 +81,8 @@ pub(crate) fn play_one(
     let hub = session.hub;
     let played = record::play_found(hub, left, found, packets);
     let after = session_after(session, played);
-    let line = played.line;
-    let next = put_line(after.records, line, out, at);
+    let answer = played.answer;
+    let next = put_line(after.records, answer, out, at);
     WindowPlayed {
         session: after,
         used: used + taken,

@@ -26,7 +26,7 @@ returns c =
     let x = e .before .before .before .args in
     record {
       hub = e .end .ensures .1;
-      line = event-told (ascii "E") (x .packets .now) (x .port) (end-sound (length (x .packets .now)) (x .hub) (x .port)) (e .end .ensures .0) (c .header-of .ensures) (e .end .ensures .2);
+      reply = event-told (ascii "E") (x .packets .now) (x .port) (end-sound (length (x .packets .now)) (x .hub) (x .port)) (e .end .ensures .0) (c .header-of .ensures) (e .end .ensures .2);
       ends = refl;
       buffer = e .end .ensures .2;
     }

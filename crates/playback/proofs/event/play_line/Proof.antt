@@ -46,7 +46,7 @@ returns c =
     let buffer = sent .line .ensures .1 ∙ ap (bufferAfter (x .packets .now) 0) same in
     record {
       hub = line-keeps (x .hub) (eventReply (x .hub) (lineEvent (x .port) (replicate (x .width) (x .pixel))) size 0);
-      line = event-told (ascii "L") (x .packets .now) (x .port) (line-sound size (x .hub) (x .port) (replicate (x .width) (x .pixel))) (sent .line .ensures .0 ∙ ap toldOf same) (c .header-of .ensures) buffer;
+      reply = event-told (ascii "L") (x .packets .now) (x .port) (line-sound size (x .hub) (x .port) (replicate (x .width) (x .pixel))) (sent .line .ensures .0 ∙ ap toldOf same) (c .header-of .ensures) buffer;
       ends = refl;
       buffer = buffer;
     }

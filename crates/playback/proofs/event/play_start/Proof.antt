@@ -26,7 +26,7 @@ returns c =
     let x = e .before .before .before .args in
     record {
       hub = e .start .ensures .1;
-      line = event-told (ascii "S") (x .packets .now) (x .port) (start-sound (length (x .packets .now)) (x .hub) (x .port) (x .bits)) (e .start .ensures .0) (c .header-of .ensures) (e .start .ensures .2);
+      reply = event-told (ascii "S") (x .packets .now) (x .port) (start-sound (length (x .packets .now)) (x .hub) (x .port) (x .bits)) (e .start .ensures .0) (c .header-of .ensures) (e .start .ensures .2);
       ends = refl;
       buffer = e .start .ensures .2;
     }

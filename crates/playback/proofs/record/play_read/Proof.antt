@@ -14,7 +14,7 @@ read-requires c κs = search needs
 
 returns : tie.Need-returns
 unfolding answerReply playRecord
-returns c = record { hub = refl; line = ap (λ (value : ℕ). given (readFields (c .before .args .offset) value)) (c .read .ensures); ends = refl; buffer = refl }
+returns c = record { hub = refl; reply = ap (λ (value : ℕ). given (readFields (c .before .args .offset) value)) (c .read .ensures); ends = refl; buffer = refl }
 
 pub play-read-spec : {M : Type 1} → statement M
 play-read-spec = tie.close (tie.spec read-requires returns)

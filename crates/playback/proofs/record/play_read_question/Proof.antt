@@ -13,7 +13,7 @@ who-answers-read-requires c κs = search needs
 
 returns : tie.Need-returns
 unfolding answerReply playRecord
-returns c = record { hub = refl; line = ap (onReply (readQuestionFields (c .before .args .address))) (c .who-answers-read .ensures); ends = refl; buffer = refl }
+returns c = record { hub = refl; reply = ap (onReply (readQuestionFields (c .before .args .address))) (c .who-answers-read .ensures); ends = refl; buffer = refl }
 
 pub play-read-question-spec : {M : Type 1} → statement M
 play-read-question-spec = tie.close (tie.spec who-answers-read-requires returns)

@@ -12,7 +12,7 @@ burst-requires c κs = search needs
 
 returns : tie.Need-returns
 unfolding answerReply playRecord
-returns c = record { hub = c .burst .ensures; line = refl; ends = refl; buffer = refl }
+returns c = record { hub = c .burst .ensures; reply = refl; ends = refl; buffer = refl }
 
 pub play-write-spec : {M : Type 1} → statement M
 play-write-spec = tie.close (tie.spec burst-requires returns)

@@ -13,7 +13,7 @@ who-hears-write-requires c κs = search needs
 
 returns : tie.Need-returns
 unfolding answerReply playRecord
-returns c = record { hub = refl; line = ap (onReply (writeQuestionFields (c .before .args .address))) (c .who-hears-write .ensures); ends = refl; buffer = refl }
+returns c = record { hub = refl; reply = ap (onReply (writeQuestionFields (c .before .args .address))) (c .who-hears-write .ensures); ends = refl; buffer = refl }
 
 pub play-write-question-spec : {M : Type 1} → statement M
 play-write-question-spec = tie.close (tie.spec who-hears-write-requires returns)

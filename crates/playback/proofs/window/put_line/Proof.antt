@@ -22,7 +22,7 @@ returns : tie.Need-returns
 returns c =
     let put = c .before .before .before .before in
     let x = put .before .before .before .args in
-    absurd (never-full (x .out .now) (x .at) (lineText (x .number) (answerReply (x .line))) (search needs) (c .enum-told .given .1) (put .put-line .ensures .0))
+    absurd (never-full (x .out .now) (x .at) (lineText (x .number) (answerReply (x .answer))) (search needs) (c .enum-told .given .1) (put .put-line .ensures .0))
 
 same-length-2 : tie.Need-same-length-2
 same-length-2 c = search needs
@@ -31,7 +31,7 @@ returns-2 : tie.Need-returns-2
 returns-2 c =
     let put = c .before .before .before .before .before in
     let x = put .before .before .before .args in
-    let text = lineText (x .number) (answerReply (x .line)) in
+    let text = lineText (x .number) (answerReply (x .answer)) in
     (place-behind (x .out .now) (x .at) text (search needs) (c .before .next .given .1) (put .put-line .ensures .0), text-there (x .out .now) (x .at) text (search needs) (put .put-line .ensures .1))
 
 pub put-line-spec : {M : Type 1} → statement M

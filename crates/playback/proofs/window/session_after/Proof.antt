@@ -31,7 +31,7 @@ returns : tie.Need-returns
 unfolding sessionAfter
 returns c =
     let told = c .before .before in
-    rw (c .before .wrapping-add-u64 .ensures, c .wrapping-add-u642 .ensures, told .is-refused .ensures, as-number (isRefused (answerReply (told .before .before .args .played .line))))
+    rw (c .before .wrapping-add-u64 .ensures, c .wrapping-add-u642 .ensures, told .is-refused .ensures, as-number (isRefused (answerReply (told .before .before .args .played .answer))))
 
 pub session-after-spec : {M : Type 1} → statement M
 session-after-spec =
