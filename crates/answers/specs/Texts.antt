@@ -1,15 +1,10 @@
--- Numbers and words as text, each character by its ASCII code.
+-- Numbers as text, each character by its ASCII code. (Words: `ascii`.)
 -- Assumes nothing.
 use mathlib.Core.Bool.{cond}
 use mathlib.Core.List.{List, [], _∷_, _++_}
-use Prim.Native.Char.{code}
 use Prim.Native.Nat.{ℕ, zero, suc, _+_, _/_, _%_}
-use Prim.Native.String.{String, [] as emptyString, _∷_ as _before_}
 use lib.Dec.{ltb}
-
-abbrev pub ascii : String → List ℕ
-ascii emptyString = []
-ascii (character before text) = code character ∷ ascii text
+pub use Rattle.laws.specs.Texts.{ascii}
 
 -- Document 01: "Hex has two digits a byte, capitals." A digit is 0 to 9 (from code 48) or A to F (from code 65).
 unfoldable pub hexDigit : ℕ → ℕ

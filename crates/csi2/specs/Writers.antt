@@ -2,11 +2,11 @@
 -- Assumes nothing.
 use mathlib.Core.Bool.{Bool, cond}
 use mathlib.Core.List.{List}
-use Prim.Native.Nat.{ℕ, _+_}
-use lib.Dec.{leb}
+use Prim.Native.Nat.{ℕ}
 use lib.ListN.{length}
 use Rattle.laws.specs.Reply.{Reply, refused, given}
 use Rattle.laws.specs.Buffers.{written}
+unfoldable pub use Rattle.laws.specs.Buffers.{ifRoom}
 use Rattle.formats.specs.declared.Format.{Format}
 use Rattle.csi2.specs.declared.raw.PackAnswer.{PackAnswer}
 use Rattle.csi2.specs.declared.short.FrameSync.{FrameSync}
@@ -15,10 +15,6 @@ use Rattle.csi2.specs.declared.line.LineAnswer.{LineAnswer}
 use Rattle.csi2.specs.declared.line.ForwardAnswer.{ForwardAnswer}
 use Rattle.csi2.specs.Raw.{payloadOf, widthAllowed, allFit}
 use Rattle.csi2.specs.Packets.{isShort, headerBytes, syncIdentifier, longPacket}
-
--- the bytes, if they have room in a buffer of that size; otherwise 8: "fewer bytes free from the place than the packet needs, or the place is beyond the buffer"
-unfoldable pub ifRoom : ℕ → ℕ → List ℕ → Reply (List ℕ)
-ifRoom size place bytes = cond (leb (place + length bytes) size) (given bytes) (refused 8)
 
 -- what follows, if the pixels are good; otherwise 5: "width not allowed for the format"; 6: "a pixel does not fit the format"
 abbrev pub ifPixels : {A : Type 0} → Format → List ℕ → Reply A → Reply A

@@ -3,3 +3,4 @@ pub mod MaskedWrites
 pub mod Reply
 pub mod Tables
 pub mod Buffers
+pub mod Texts

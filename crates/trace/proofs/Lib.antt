@@ -1,2 +1,4 @@
 pub mod RecordLaws
+pub mod KindLaws
 pub mod WindowLaws
+pub mod RecordBytesLaws
