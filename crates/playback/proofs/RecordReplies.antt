@@ -3,10 +3,10 @@
 use mathlib.Core.Path.{_≡_}
 use mathlib.Core.Bool.{Bool, true, false, cond, _&&_}
 use mathlib.Core.List.{List, [], _∷_, _++_}
-use Prim.Native.Nat.{ℕ, _+_, _*_, _≤_}
+use Prim.Native.Nat.{ℕ, _≤_}
 use native.Mathlib.Omega.{arith}
 use lib.Dec.{eqb, leb, ltb}
-use lib.ListN.{length, getD, take, drop, replicate, length-append, length-take}
+use lib.ListN.{length, take, drop, replicate, length-append, length-take}
 use Rattle.laws.specs.Reply.{Reply, refused, given, onReply}
 use Rattle.registers.specs.RegisterFiles.{readPort}
 use Rattle.hub.specs.declared.Hub.{Hub}
@@ -17,7 +17,8 @@ use Rattle.hub.specs.Hubs.{hubAt, creationOf, hubRead}
 use Rattle.hub.specs.Translation.{onPort, onPorts, matching, theHub, nobody, found, reached, answered, whoHearsWrite, whoAnswersRead}
 use Rattle.frames.specs.Events.{Outcome, eventDropped, eventSent}
 use Rattle.trace.specs.Records.{TraceRecord, hubRecord, writeRecord, readRecord, writeQuestion, readQuestion, startRecord, endRecord, lineRecord}
-use Rattle.trace.specs.Records.{ifLength, lineData, kindRecord, kindOf, dataOf, hasMark, holdsRecord, recordOf}
+use Rattle.trace.specs.Records.{kindRecord, kindOf, dataOf, hasMark, holdsRecord, recordOf}
+use Rattle.trace.proofs.KindLaws.{either, sized, later-kind}
 use Rattle.answers.specs.Texts.{ascii, hexByte, hexBytes, decimal}
 use Rattle.answers.specs.Lines.{hubFields, writeFields, readFields, deviceText, devicesText, readQuestionFields, writeQuestionFields, eventFields, fieldsText, lineText}
 use Rattle.playback.specs.Playing.{playHub, playRecord, packetRoom}
@@ -29,40 +30,18 @@ pub data RecordOrThirteen : Reply TraceRecord → Type 0 where
   thirteen : RecordOrThirteen (refused 13)
   asks : (asked : TraceRecord) → RecordOrThirteen (given asked)
 
--- so it is by either way of a test
-either : (b : Bool) {x y : Reply TraceRecord} → RecordOrThirteen x → RecordOrThirteen y → RecordOrThirteen (cond b x y)
-either true p q = p
-either false p q = q
-
--- and by the test of the record's length
-sized : (fits : Bool) (wanted : TraceRecord) → RecordOrThirteen (ifLength fits wanted)
-sized fits wanted = either fits (asks wanted) thirteen
-
 -- the records of each kind
 kind-found : (first : Bool) (kind : ℕ) (bytes : List ℕ) → RecordOrThirteen (kindRecord first kind bytes)
 unfolding kindRecord
 kind-found first kind bytes =
-    either first (either (eqb kind 0x00) (one hubRecord) thirteen)
-    (either (eqb kind 0x01) (sized (leb 2 (length bytes)) (writeRecord (getD bytes 0 0) (drop 1 bytes)))
-    (either (eqb kind 0x02) (one readRecord)
-    (either (eqb kind 0x03) (either (eqb (getD bytes 1 0) 0) (two writeQuestion) (either (eqb (getD bytes 1 0) 1) (two readQuestion) thirteen))
-    (either (eqb kind 0x10) (sized (eqb (length bytes) 2) (startRecord (getD bytes 0 0) (getD bytes 1 0)))
-    (either (eqb kind 0x11) (one endRecord)
-    (either (eqb kind 0x12) line thirteen))))))
-  where
-    one : (kind : ℕ → TraceRecord) → RecordOrThirteen (ifLength (eqb (length bytes) 1) (kind (getD bytes 0 0)))
-    one kind = sized (eqb (length bytes) 1) (kind (getD bytes 0 0))
-
-    two : (kind : ℕ → TraceRecord) → RecordOrThirteen (ifLength (eqb (length bytes) 2) (kind (getD bytes 0 0)))
-    two kind = sized (eqb (length bytes) 2) (kind (getD bytes 0 0))
-
-    line : RecordOrThirteen (lineData bytes)
-    line = sized (eqb (length bytes) 5) (lineRecord (getD bytes 0 0) (getD bytes 1 0 + 256 * getD bytes 2 0) (getD bytes 3 0 + 256 * getD bytes 4 0))
+    either RecordOrThirteen first
+    (either RecordOrThirteen (eqb kind 0x00) (sized RecordOrThirteen thirteen (eqb (length bytes) 1) (asks _)) thirteen)
+    (later-kind RecordOrThirteen thirteen kind bytes (asks _) (asks _) (asks _) (asks _) (asks _) (asks _) (asks _))
 
 -- the record at the start of the bytes
 pub record-found : (first : Bool) (bytes : List ℕ) → RecordOrThirteen (recordOf first bytes)
 unfolding recordOf
-record-found first bytes = either (holdsRecord bytes && hasMark bytes) (kind-found first (kindOf bytes) (dataOf bytes)) thirteen
+record-found first bytes = either RecordOrThirteen (holdsRecord bytes && hasMark bytes) (kind-found first (kindOf bytes) (dataOf bytes)) thirteen
 
 -- An answer that makes a line, where the buffer that is lent for packets has that size: with the player's room it is not refusal 8.
 pub data Printable (size : ℕ) : Reply (List ℕ) → Type 0 where

@@ -1,4 +1,4 @@
--- What is still to be printed from a session on: the line of the next record, and then what is still to be printed after it.
+-- What is still to come from a session on: the line of the next record, and then what is to come after it.
 -- Assumes nothing.
 use mathlib.Core.Path.{_≡_, refl, sym, ap, _∙_}
 use mathlib.Core.Bool.{Bool, true, false, cond, _&&_}
@@ -15,8 +15,8 @@ use Rattle.trace.specs.Records.{TraceRecord, holdsRecord, hasMark, recordOf, re
 use Rattle.trace.proofs.RecordLaws.{holds-whole}
 use Rattle.answers.specs.Lines.{lineText, countsText}
 use Rattle.playback.specs.declared.Session.{Session}
-use Rattle.playback.specs.Playing.{Played, playRecord, usedBy, answersFrom, linesFrom, refusedAmong}
-use Rattle.playback.specs.Windows.{isFirst, sessionAfter, restText, CountsFit}
+use Rattle.playback.specs.Playing.{Played, playRecord, usedBy, answersFrom, hubFrom, linesFrom, refusedAmong}
+use Rattle.playback.specs.Windows.{isFirst, sessionAfter, RunEnd, endFrom, textThen, sessionEnd, CountsFit}
 
 -- a record that is given is there whole
 given-whole : (first : Bool) (bytes : List ℕ) (asked : TraceRecord) → recordOf first bytes ≡ given asked → recordLength bytes ≤ length bytes
@@ -48,15 +48,26 @@ rest-less first bytes h =
     let inside = used-inside first bytes in
     omega (arith, length-drop used bytes)
 
--- There are no more records than bytes: with enough of them asked for, the answers are the same.
-same-answers : (n m : ℕ) (first : Bool) (hub : Hub) (packets bytes : List ℕ) → length bytes ≤ n → length bytes ≤ m
-    → answersFrom n first hub packets bytes ≡ answersFrom m first hub packets bytes
-unfolding answersFrom
-same-answers zero zero first hub packets bytes h k = refl
-same-answers zero (suc m) first hub packets bytes h k = rw (eq-eqb (length bytes) 0 (omega arith))
-same-answers (suc n) zero first hub packets bytes h k = rw (eq-eqb (length bytes) 0 (omega arith))
-same-answers (suc n) (suc m) first hub packets bytes h k =
-    go (eqb (length bytes) 0) refl (same-answers n m false (done .hub) (done .packets) rest)
+-- the answers to the records of some bytes, and the hub after them
+abbrev pub Course : Type 0
+Course = List (Reply (List ℕ)) × Hub
+
+abbrev pub courseFrom : ℕ → Bool → Hub → List ℕ → List ℕ → Course
+courseFrom n first hub packets bytes = (answersFrom n first hub packets bytes, hubFrom n first hub packets bytes)
+
+-- with no bytes left, or from the next record on
+abbrev courseThen : Bool → Hub → Played → Course → Course
+courseThen none hub played later = (cond none [] (played .reply ∷ cond (played .ends) [] (later .0)), cond none hub (cond (played .ends) (played .hub) (later .1)))
+
+-- There are no more records than bytes: with enough of them asked for, what comes of them is the same.
+pub same-course : (n m : ℕ) (first : Bool) (hub : Hub) (packets bytes : List ℕ) → length bytes ≤ n → length bytes ≤ m
+    → courseFrom n first hub packets bytes ≡ courseFrom m first hub packets bytes
+unfolding answersFrom hubFrom
+same-course zero zero first hub packets bytes h k = refl
+same-course zero (suc m) first hub packets bytes h k = rw (eq-eqb (length bytes) 0 (omega arith))
+same-course (suc n) zero first hub packets bytes h k = rw (eq-eqb (length bytes) 0 (omega arith))
+same-course (suc n) (suc m) first hub packets bytes h k =
+    go (eqb (length bytes) 0) refl (same-course n m false (done .hub) (done .packets) rest)
   where
     done : Played
     done = playRecord hub packets (recordOf first bytes)
@@ -64,37 +75,46 @@ same-answers (suc n) (suc m) first hub packets bytes h k =
     rest : List ℕ
     rest = drop (usedBy bytes (recordOf first bytes)) bytes
 
-    next : ℕ → List (Reply (List ℕ))
-    next n = answersFrom n false (done .hub) (done .packets) rest
+    next : ℕ → Course
+    next n = courseFrom n false (done .hub) (done .packets) rest
 
     go : (b : Bool) → eqb (length bytes) 0 ≡ b → (length rest ≤ n → length rest ≤ m → next n ≡ next m)
-        → cond b [] (done .reply ∷ cond (done .ends) [] (next n)) ≡ cond b [] (done .reply ∷ cond (done .ends) [] (next m))
+        → courseThen b hub done (next n) ≡ courseThen b hub done (next m)
     go true e ih = refl
     go false e ih =
         let ne = eqb-false (length bytes) 0 e in
         let less = rest-less first bytes (omega arith) in
-        ap (λ (answers : List (Reply (List ℕ))). done .reply ∷ cond (done .ends) [] answers) (ih (omega arith) (omega arith))
+        ap (courseThen false hub done) (ih (omega arith) (omega arith))
 
--- the text of the answers that are left, with the counts so far
-abbrev textFrom : ℕ → ℕ → List (Reply (List ℕ)) → List ℕ
-textFrom records refusals answers =
-    linesFrom (records + 1) answers ++ countsText (records + length answers) (refusals + refusedAmong answers)
+-- what is to come of the records that are left, with the counts so far
+abbrev restFrom : ℕ → ℕ → Course → RunEnd
+restFrom records refusals course =
+    record {
+      text = linesFrom (records + 1) (course .0) ++ countsText (records + length (course .0)) (refusals + refusedAmong (course .0));
+      hub = course .1;
+    }
 
 -- the next answer's line comes first
-text-next : (records refusals : ℕ) (reply : Reply (List ℕ)) (answers : List (Reply (List ℕ))) {r f : ℕ} → r ≡ records + 1
+line-first : (records refusals : ℕ) (reply : Reply (List ℕ)) (later : Course) {r f : ℕ} → r ≡ records + 1
     → f ≡ refusals + cond (isRefused reply) 1 0
-    → textFrom records refusals (reply ∷ answers) ≡ lineText r reply ++ textFrom r f answers
+    → restFrom records refusals (reply ∷ later .0, later .1) ≡ textThen (lineText r reply) (restFrom r f later)
 unfolding linesFrom refusedAmong
-text-next records refusals reply answers p q =
+line-first records refusals reply later p q =
     let number : suc (records + 1) ≡ records + 1 + 1 = omega arith in
-    let count : records + suc (length answers) ≡ records + 1 + length answers = omega arith in
+    let count : records + suc (length (later .0)) ≡ records + 1 + length (later .0) = omega arith in
     let refusal : ℕ = cond (isRefused reply) 1 0 in
-    let among : refusals + (refusal + refusedAmong answers) ≡ refusals + refusal + refusedAmong answers = omega arith in
+    let among : refusals + (refusal + refusedAmong (later .0)) ≡ refusals + refusal + refusedAmong (later .0) = omega arith in
     rw (p, q, append-assoc, number, count, among)
 
--- the answers that are left
-abbrev answersLeft : Session → List ℕ → List ℕ → List (Reply (List ℕ))
-answersLeft session packets left = cond (session .ended) [] (answersFrom (length left) (isFirst session) (session .hub) packets left)
+-- text before text
+pub text-text : (a b : List ℕ) (rest : RunEnd) → textThen (a ++ b) rest ≡ textThen a (textThen b rest)
+text-text a b rest = rw append-assoc
+
+-- what comes of the records that are left
+abbrev courseLeft : Session → List ℕ → List ℕ → Course
+courseLeft session packets left =
+    let course = courseFrom (length left) (isFirst session) (session .hub) packets left in
+    (cond (session .ended) [] (course .0), cond (session .ended) (session .hub) (course .1))
 
 -- the next record
 abbrev pub foundIn : Session → List ℕ → Reply TraceRecord
@@ -109,10 +129,10 @@ abbrev pub lineOf : Session → List ℕ → Reply TraceRecord → List ℕ
 lineOf session packets found =
     let played = playRecord (session .hub) packets found in lineText (sessionAfter session played .records) (played .reply)
 
--- what is to be printed behind it
-abbrev pub restAfter : Session → List ℕ → Reply TraceRecord → List ℕ → List ℕ
+-- what is to come behind it
+abbrev pub restAfter : Session → List ℕ → Reply TraceRecord → List ℕ → RunEnd
 restAfter session packets found left =
-    let played = playRecord (session .hub) packets found in restText (sessionAfter session played) (played .packets) left
+    let played = playRecord (session .hub) packets found in endFrom (sessionAfter session played) (played .packets) left
 
 -- the counts fit again behind a record
 pub counts-next : (session : Session) (played : Played) (left rest : List ℕ) → CountsFit session left → 1 + length rest ≤ length left
@@ -147,43 +167,42 @@ module _ (session : Session) (packets left : List ℕ) (on : session .ended ≡ 
       go true = omega arith
       go false = omega arith
 
-  -- one answer more is the next record's
-  answers-next : answersLeft session packets left ≡ done .reply ∷ answersLeft next (done .packets) (behind session left)
-  unfolding answersFrom sessionAfter done next
-  answers-next =
+  -- the next record comes first
+  course-next :
+      let later = courseLeft next (done .packets) (behind session left) in
+      courseLeft session packets left ≡ (done .reply ∷ later .0, later .1)
+  unfolding answersFrom hubFrom sessionAfter done next
+  course-next =
       let less = rest-less (isFirst session) left some in
       let later : isFirst next ≡ false = ne-eqb (next .records) 0 (λ e. omega (arith, records-next)) in
       rw on
-      (same-answers (length left) (suc (length left)) (isFirst session) (session .hub) packets left (omega arith) (omega arith)
-      ∙ ap (λ (b : Bool). cond b [] (followed (tail (length left) false))) (ne-eqb (length left) 0 (λ e. omega arith))
-      ∙ ap followed (same-answers (length left) (length rest) false (done .hub) (done .packets) rest (omega arith) (omega arith))
+      (same-course (length left) (suc (length left)) (isFirst session) (session .hub) packets left (omega arith) (omega arith)
+      ∙ ap (λ (b : Bool). courseThen b (session .hub) done (tail (length left) false)) (ne-eqb (length left) 0 (λ e. omega arith))
+      ∙ ap followed (same-course (length left) (length rest) false (done .hub) (done .packets) rest (omega arith) (omega arith))
       ∙ ap (λ (b : Bool). followed (tail (length rest) b)) (sym later))
     where
       rest : List ℕ
       rest = behind session left
 
-      tail : ℕ → Bool → List (Reply (List ℕ))
-      tail n first = answersFrom n first (done .hub) (done .packets) rest
+      tail : ℕ → Bool → Course
+      tail n first = courseFrom n first (done .hub) (done .packets) rest
 
-      followed : List (Reply (List ℕ)) → List (Reply (List ℕ))
-      followed answers = done .reply ∷ cond (done .ends) [] answers
+      followed : Course → Course
+      followed later = courseThen false (session .hub) done later
 
-  -- so the next record's line comes first
-  pub rest-next : restText session packets left
-      ≡ lineOf session packets (foundIn session left) ++ restAfter session packets (foundIn session left) (behind session left)
-  unfolding restText done next
+  -- so the next record's line does
+  pub rest-next : endFrom session packets left
+      ≡ textThen (lineOf session packets (foundIn session left)) (restAfter session packets (foundIn session left) (behind session left))
+  unfolding endFrom done next
   rest-next =
-      ap (textFrom (session .records) (session .refusals)) answers-next
-      ∙ text-next (session .records) (session .refusals) (done .reply) (answersLeft next (done .packets) (behind session left)) records-next refusals-next
+      ap (restFrom (session .records) (session .refusals)) course-next
+      ∙ line-first (session .records) (session .refusals) (done .reply) (courseLeft next (done .packets) (behind session left)) records-next refusals-next
 
--- where no answer is left, the counts are
-pub none-counts : (session : Session) (packets left : List ℕ)
-    → cond (session .ended) [] (answersFrom (length left) (isFirst session) (session .hub) packets left) ≡ []
-    → restText session packets left ≡ countsText (session .records) (session .refusals)
-unfolding restText linesFrom refusedAmong
-none-counts session packets left e = rw e (simp add-zero)
+-- where no record is left, the counts are
+pub none-counts : (session : Session) (packets left : List ℕ) → courseLeft session packets left ≡ ([], session .hub) → endFrom session packets left ≡ sessionEnd session
+unfolding endFrom linesFrom refusedAmong
+none-counts session packets left e = ap (restFrom (session .records) (session .refusals)) e ∙ (simp add-zero)
 
 -- as at the end of a run
-pub ended-counts : (session : Session) (packets left : List ℕ) → session .ended ≡ true
-    → restText session packets left ≡ countsText (session .records) (session .refusals)
+pub ended-counts : (session : Session) (packets left : List ℕ) → session .ended ≡ true → endFrom session packets left ≡ sessionEnd session
 ended-counts session packets left e = none-counts session packets left (rw e)

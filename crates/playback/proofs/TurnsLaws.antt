@@ -1,20 +1,22 @@
--- However a file is cut into turns, what is printed is the player's text.
+-- However a file is cut into turns, what is printed is the player's text, and the hub at the end is that of the file.
 -- Assumes nothing.
 use mathlib.Core.Path.{_≡_, refl, sym, ap, subst, _∙_}
 use mathlib.Core.Bool.{true}
 use mathlib.Core.List.{List, [], _∷_, _++_, append-assoc}
-use Prim.Native.Nat.{ℕ, _+_, _≤_}
+use Prim.Native.Nat.{ℕ, _+_, _^_, _≤_, _<_}
 use native.Mathlib.Nat.{zero-add}
 use native.Mathlib.Omega.{arith}
 use lib.ListN.{length, take, drop}
 use Rattle.laws.specs.Buffers.{written}
 use Rattle.laws.proofs.Buffers.{read-written}
-use Rattle.playback.specs.Windows.{WindowState, playWindow, restText, CountsFit, PrintsNext, Turn, Run, newRun, turned, allTurned, fileOf, LastAreLast, HoweverCut}
+use Rattle.playback.specs.Windows.{WindowState, playWindow, RunEnd, endFrom, textThen, fileEnd, sessionEnd, CountsFit, PrintsNext}
+use Rattle.playback.specs.Windows.{Turn, Run, newRun, turned, allTurned, fileOf, LastAreLast, Finished, HoweverCut, EndsWithHub}
+use Rattle.playback.proofs.RestLaws.{text-text}
 use Rattle.playback.proofs.WindowsLaws.{starts-with-all, ends-with-counts, windows-print}
 
--- all of the text: what was printed, and what is still to be printed
-abbrev whole : Run → List ℕ → List ℕ
-whole run later = run .printed ++ restText (run .session) (run .packets) (run .left ++ later)
+-- the whole: what was printed, and what is still to come
+abbrev whole : Run → List ℕ → RunEnd
+whole run later = textThen (run .printed) (endFrom (run .session) (run .packets) (run .left ++ later))
 
 -- what was put from the start of a buffer
 put-text : (out after text : List ℕ) (at : ℕ) → after ≡ written out 0 text → at ≡ 0 + length text → at ≤ length out → take at after ≡ text
@@ -23,7 +25,7 @@ put-text out after text at stored place inside =
     ∙ ap (λ (n : ℕ). take n (written out 0 text)) (place ∙ zero-add (length text))
     ∙ read-written out 0 text (omega arith)
 
--- a turn moves text from what is still to be printed to what was printed
+-- a turn moves text from what is still to come to what was printed
 module _ (run : Run) (turn : Turn) (later : List ℕ) (ends : turn .last ≡ true → later ≡ []) (fit : CountsFit (run .session) ((run .left ++ turn .bytes) ++ later)) where
   abbrev before : WindowState
   before = record { session = run .session; used = 0; packets = run .packets; out = turn .out; at = 0 }
@@ -39,12 +41,12 @@ module _ (run : Run) (turn : Turn) (later : List ℕ) (ends : turn .last ≡ tru
   one-turn =
       let after = playWindow (length window) (turn .last) window before in
       let text = prints .text in
-      let rest = restText (after .session) (after .packets) (drop (after .used) window ++ later) in
-      ap (λ (l : List ℕ). (run .printed ++ l) ++ rest)
+      let rest = endFrom (after .session) (after .packets) (drop (after .used) window ++ later) in
+      ap (λ (l : List ℕ). textThen (run .printed ++ l) rest)
       (put-text (turn .out) (after .out) text (after .at) (prints .stored) (prints .place) (prints .inside))
-      ∙ append-assoc (run .printed) text rest
-      ∙ ap (λ (l : List ℕ). run .printed ++ l) (sym (prints .printed))
-      ∙ ap (λ (l : List ℕ). run .printed ++ restText (run .session) (run .packets) l) (append-assoc (run .left) (turn .bytes) later)
+      ∙ text-text (run .printed) text rest
+      ∙ ap (textThen (run .printed)) (sym (prints .printed))
+      ∙ ap (λ (l : List ℕ). textThen (run .printed) (endFrom (run .session) (run .packets) l)) (append-assoc (run .left) (turn .bytes) later)
 
   turn-fits : CountsFit (turned run turn .session) (turned run turn .left ++ later)
   unfolding turned
@@ -61,10 +63,17 @@ all-turns (turn ∷ turns) run unread last fit =
     all-turns turns (turned run turn) unread (last .1) (turn-fits run turn later (last .0) fits) ∙ one-turn run turn later (last .0) fits
 
 -- from the start of the file to its end
-pub however-cut : HoweverCut
-however-cut turns unread last small finished =
+file-end : (turns : List Turn) (unread : List ℕ) → LastAreLast turns unread → length (fileOf turns unread) < 2 ^ 64
+    → let end = allTurned newRun turns in
+    Finished end unread → textThen (end .printed) (sessionEnd (end .session)) ≡ fileEnd (fileOf turns unread)
+file-end turns unread last small finished =
     let end = allTurned newRun turns in
-    let file = fileOf turns unread in
-    ap (λ (l : List ℕ). end .printed ++ l) (sym (ends-with-counts (end .session) (end .packets) (end .left ++ unread) finished))
+    ap (textThen (end .printed)) (sym (ends-with-counts (end .session) (end .packets) (end .left ++ unread) finished))
     ∙ all-turns turns newRun unread last (omega arith, omega arith)
-    ∙ starts-with-all file
+    ∙ starts-with-all (fileOf turns unread)
+
+pub however-cut : HoweverCut
+however-cut turns unread last small finished = ap (λ (rest : RunEnd). rest .text) (file-end turns unread last small finished)
+
+pub ends-with-hub : EndsWithHub
+ends-with-hub turns unread last small finished = ap (λ (rest : RunEnd). rest .hub) (file-end turns unread last small finished)

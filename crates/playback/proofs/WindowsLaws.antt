@@ -2,7 +2,7 @@
 -- Assumes nothing.
 use mathlib.Core.Path.{_≡_, refl, sym, ap, _∙_}
 use mathlib.Core.Bool.{Bool, true, false, cond, not, _&&_}
-use mathlib.Core.List.{List, [], _++_, append-assoc}
+use mathlib.Core.List.{List, [], _++_}
 use Prim.Native.Nat.{ℕ, zero, suc, _+_, _≤_}
 use native.Mathlib.Nat.{add-zero, zero-add}
 use native.Mathlib.Omega.{arith}
@@ -11,26 +11,24 @@ use lib.Dec.{eqb, leb}
 use lib.ListN.{length, drop, length-append}
 use lib.Seq.{drop-drop}
 use Rattle.laws.proofs.Buffers.{written-nil, written-more, length-written}
-use Rattle.answers.specs.Lines.{countsText}
-use Rattle.playback.specs.Playing.{playRecord, usedBy, answersFrom}
-use Rattle.playback.specs.Windows.{isFirst, sessionAfter, WindowState, mayPlay, playOne, playWindow, restText, CountsFit}
+use Rattle.playback.specs.Playing.{playRecord, usedBy, answersFrom, hubFrom}
+use Rattle.playback.specs.Windows.{isFirst, sessionAfter, WindowState, mayPlay, playOne, playWindow, endFrom, textThen, sessionEnd, CountsFit}
 use Rattle.playback.specs.Windows.{StartsWithAll, EndsWithCounts, PrintsNext, WindowsPrint, PlaysOut}
 use Rattle.playback.proofs.RecordReplies.{record-found, line-short, played-printable}
 use Rattle.playback.proofs.ShownRecords.{shows, some-left, printed-next}
-use Rattle.playback.proofs.RestLaws.{rest-less, foundIn, behind, lineOf, restAfter, counts-next, none-counts, ended-counts}
+use Rattle.playback.proofs.RestLaws.{rest-less, foundIn, behind, lineOf, restAfter, text-text, counts-next, none-counts, ended-counts}
 
 -- at first all of the player's text is to be printed
 pub starts-with-all : StartsWithAll
-unfolding restText
+unfolding endFrom
 starts-with-all file = simp zero-add
 
 -- at the end the counts alone
 pub ends-with-counts : EndsWithCounts
-unfolding answersFrom
+unfolding answersFrom hubFrom
 ends-with-counts session packets left h = go (session .ended) refl h
   where
-    go : (b : Bool) → session .ended ≡ b → cond b true (eqb (length left) 0) ≡ true
-        → restText session packets left ≡ countsText (session .records) (session .refusals)
+    go : (b : Bool) → session .ended ≡ b → cond b true (eqb (length left) 0) ≡ true → endFrom session packets left ≡ sessionEnd session
     go true e k = ended-counts session packets left e
     go false e k = none-counts session packets left (rw (e, eqb-true (length left) 0 k))
 
@@ -143,9 +141,9 @@ module _ (last : Bool) (window rest : List ℕ) (ends : last ≡ true → rest �
           place = more .place ∙ omega arith;
           inside = omega arith;
           printed = printed-next session (before .packets) bytes rest (tests last window before may .0) (shown-some last window before may) fit last (tests last window before may .1) ends
-              ∙ ap (λ (l : List ℕ). line ++ restAfter session (before .packets) (foundIn session bytes) (l ++ rest)) (sym (left-behind last window before may))
-              ∙ ap (λ (l : List ℕ). line ++ l) (more .printed)
-              ∙ sym (append-assoc line text _);
+              ∙ ap (λ (l : List ℕ). textThen line (restAfter session (before .packets) (foundIn session bytes) (l ++ rest))) (sym (left-behind last window before may))
+              ∙ ap (textThen line) (more .printed)
+              ∙ sym (text-text line text _);
           counts = more .counts;
         }
 

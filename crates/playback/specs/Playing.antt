@@ -1,4 +1,4 @@
--- What the player prints for a trace: document 01, "The trace and the player".
+-- What the player prints for a trace, and the hub at its end: document 01, "The trace and the player".
 -- Assumes nothing.
 use mathlib.Core.Bool.{Bool, true, false, cond}
 use mathlib.Core.List.{List, [], _∷_, _++_, List·Memᴰ}
@@ -73,6 +73,19 @@ packetRoom = 6150
 -- the answers to the records of a file: no record has no bytes, so there are at most as many as bytes. (Before record 1 there is no hub; the one here is not asked.)
 abbrev pub answersOf : List ℕ → List (Reply (List ℕ))
 answersOf file = answersFrom (length file) true (hubAt 0x08) (replicate packetRoom 0) file
+
+-- the hub after the records of some bytes, of which there are at most n: as `answersFrom` goes through them
+unfoldable pub hubFrom : ℕ → Bool → Hub → List ℕ → List ℕ → Hub
+hubFrom zero first hub packets bytes = hub
+hubFrom (suc n) first hub packets bytes =
+    let found = recordOf first bytes in
+    let played = playRecord hub packets found in
+    cond (eqb (length bytes) 0) hub
+    (cond (played .ends) (played .hub) (hubFrom n false (played .hub) (played .packets) (drop (usedBy bytes found) bytes)))
+
+-- the hub at the end of a file ("end state", L1)
+abbrev pub endHub : List ℕ → Hub
+endHub file = hubFrom (length file) true (hubAt 0x08) (replicate packetRoom 0) file
 
 -- "prints one line a record: its number from 1"
 unfoldable pub linesFrom : ℕ → List (Reply (List ℕ)) → List ℕ

@@ -1,4 +1,5 @@
--- How the source plays a file in windows, and the laws that make it right: however the file is cut, what is printed is the player's text.
+-- How the source plays a file in windows, and the laws that make it right: however the file is cut, what is printed is the player's text, and the hub at the
+-- end is that of the file.
 -- Assumes nothing.
 use mathlib.Core.Path.{_≡_}
 use mathlib.Core.Bool.{Bool, true, false, cond, not, _&&_}
@@ -8,13 +9,14 @@ use lib.Dec.{eqb, leb}
 use lib.ListN.{length, take, drop, replicate}
 use Rattle.laws.specs.Reply.{isRefused}
 use Rattle.laws.specs.Buffers.{written}
+use Rattle.hub.specs.declared.Hub.{Hub}
 use Rattle.hub.specs.Hubs.{hubAt}
 use Rattle.trace.specs.Records.{holdsRecord, recordOf}
 use Rattle.answers.specs.Lines.{lineText, countsText}
 use Rattle.lines.specs.Room.{textRoom}
 use Rattle.playback.specs.declared.Session.{Session}
 use Rattle.playback.specs.declared.WindowPlayed.{WindowPlayed}
-use Rattle.playback.specs.Playing.{Played, playRecord, usedBy, answersFrom, packetRoom, linesFrom, refusedAmong, playerText}
+use Rattle.playback.specs.Playing.{Played, playRecord, usedBy, answersFrom, packetRoom, hubFrom, endHub, linesFrom, refusedAmong, playerText}
 
 -- the player before record 1
 abbrev pub newSession : Session
@@ -74,33 +76,54 @@ unfoldable pub playWindow : ℕ → Bool → List ℕ → WindowState → Window
 playWindow zero last window state = state
 playWindow (suc n) last window state = cond (mayPlay last window state) (playWindow n last window (playOne window state)) state
 
--- what is still to be printed from a session on, with those bytes of the file left
-unfoldable pub restText : Session → List ℕ → List ℕ → List ℕ
-restText session packets left =
+-- How a run ends from a session on: the text that is still to be printed, and the hub at the end.
+pub record RunEnd : Type 0 where
+  pub text : List ℕ
+  pub hub : Hub
+
+-- the end of a run with those bytes of the file left
+unfoldable pub endFrom : Session → List ℕ → List ℕ → RunEnd
+endFrom session packets left =
     let answers = cond (session .ended) [] (answersFrom (length left) (isFirst session) (session .hub) packets left) in
-    linesFrom (session .records + 1) answers ++ countsText (session .records + length answers) (session .refusals + refusedAmong answers)
+    record {
+      text = linesFrom (session .records + 1) answers ++ countsText (session .records + length answers) (session .refusals + refusedAmong answers);
+      hub = cond (session .ended) (session .hub) (hubFrom (length left) (isFirst session) (session .hub) packets left);
+    }
+
+-- some text, and then the end
+abbrev pub textThen : List ℕ → RunEnd → RunEnd
+textThen text end = record { text = text ++ end .text; hub = end .hub }
+
+-- the end of a run through a file, from its start
+abbrev pub fileEnd : List ℕ → RunEnd
+fileEnd file = record { text = playerText file; hub = endHub file }
+
+-- the last line alone, and the hub is the session's
+abbrev pub sessionEnd : Session → RunEnd
+sessionEnd session = record { text = countsText (session .records) (session .refusals); hub = session .hub }
 
 -- a session that counts right: there are fewer than 2 ^ 64 records, since there are fewer bytes
 abbrev pub CountsFit : Session → List ℕ → Type 0
 CountsFit session left = (session .records + length left < 2 ^ 64) × (session .refusals + length left < 2 ^ 64)
 
--- At first all of the player's text is to be printed; at the end the last line alone.
+-- At first all of the player's text is to come, and the hub at the file's end; at the end the last line alone, and the hub is the session's.
 abbrev pub StartsWithAll : Type 0
-StartsWithAll = (file : List ℕ) → restText newSession (replicate packetRoom 0) file ≡ playerText file
+StartsWithAll = (file : List ℕ) → endFrom newSession (replicate packetRoom 0) file ≡ fileEnd file
 
 abbrev pub EndsWithCounts : Type 0
 EndsWithCounts =
     (session : Session) (packets left : List ℕ) → cond (session .ended) true (eqb (length left) 0) ≡ true
-    → restText session packets left ≡ countsText (session .records) (session .refusals)
+    → endFrom session packets left ≡ sessionEnd session
 
--- What a window prints is the next part of what is to be printed, whatever stands behind it in the file (at the file's end, nothing).
+-- What a window prints is the next part of the text that is to come, and the hub at the end stays the same, whatever stands behind the window in the file (at
+-- the file's end, nothing).
 pub record PrintsNext (window rest : List ℕ) (before after : WindowState) : Type 0 where
   pub text : List ℕ
   pub stored : after .out ≡ written (before .out) (before .at) text
   pub place : after .at ≡ before .at + length text
   pub inside : after .at ≤ length (before .out)
-  pub printed : restText (before .session) (before .packets) (drop (before .used) window ++ rest)
-      ≡ text ++ restText (after .session) (after .packets) (drop (after .used) window ++ rest)
+  pub printed : endFrom (before .session) (before .packets) (drop (before .used) window ++ rest)
+      ≡ textThen text (endFrom (after .session) (after .packets) (drop (after .used) window ++ rest))
   pub counts : CountsFit (after .session) (drop (after .used) window ++ rest)
 
 abbrev pub WindowsPrint : Type 0
@@ -167,3 +190,10 @@ HoweverCut =
     (turns : List Turn) (unread : List ℕ) → LastAreLast turns unread → length (fileOf turns unread) < 2 ^ 64
     → let end = allTurned newRun turns in
     Finished end unread → end .printed ++ countsText (end .session .records) (end .session .refusals) ≡ playerText (fileOf turns unread)
+
+-- However a file is cut into turns, the run ends with the hub of the file's end.
+abbrev pub EndsWithHub : Type 0
+EndsWithHub =
+    (turns : List Turn) (unread : List ℕ) → LastAreLast turns unread → length (fileOf turns unread) < 2 ^ 64
+    → let end = allTurned newRun turns in
+    Finished end unread → end .session .hub ≡ endHub (fileOf turns unread)
