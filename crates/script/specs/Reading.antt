@@ -1,0 +1,154 @@
+-- How a text is read: its lines, the calls in them, and the first refusal (L1). `Grammar` says what the lines are, and `Laws` that exactly those are taken.
+-- Assumes nothing.
+use mathlib.Core.Bool.{Bool, true, false, cond}
+use mathlib.Core.List.{List, [], _∷_, _++_}
+use mathlib.Core.Option.{Option, none, some}
+use Prim.Native.Nat.{ℕ, suc, _+_, _*_}
+use lib.Dec.{eqb, ltb}
+use lib.ListN.{length, getD, drop}
+use Rattle.laws.specs.Reply.{Reply, refused, given}
+use Rattle.laws.specs.Buffers.{written}
+use Rattle.laws.specs.Texts.{ascii}
+use Rattle.hub.specs.declared.Hub.{Hub}
+use Rattle.hub.specs.Hubs.{creationOf}
+use Rattle.script.specs.declared.TraceAnswer.{TraceAnswer}
+use Rattle.script.specs.Calls.{Call, traceOf}
+use Rattle.script.specs.Grammar.{isBlank, digitValue, isCommentOrNone}
+
+-- what stands behind the spaces and tabs at the start
+unfoldable pub afterBlanks : List ℕ → List ℕ
+afterBlanks [] = []
+afterBlanks (byte ∷ bytes) = cond (isBlank byte) (afterBlanks bytes) (byte ∷ bytes)
+
+-- what stands behind a word, where the text starts with it
+unfoldable pub afterWord : List ℕ → List ℕ → Option (List ℕ)
+afterWord [] bytes = some bytes
+afterWord (letter ∷ letters) [] = none
+afterWord (letter ∷ letters) (byte ∷ bytes) = cond (eqb byte letter) (afterWord letters bytes) none
+
+-- the same behind spaces and tabs, where the text was of the grammar so far
+unfoldable pub behind : List ℕ → Option (List ℕ) → Option (List ℕ)
+behind word none = none
+behind word (some bytes) = afterWord word (afterBlanks bytes)
+
+-- A value, and what stands behind it where there is one.
+pub record ValueAndRest : Type 0 where
+  pub value : ℕ
+  pub rest : Option (List ℕ)
+
+-- two hex digits where two stand there, otherwise one
+unfoldable pub digitsRead : Option (List ℕ) → ValueAndRest
+digitsRead none = record { value = 0; rest = none }
+digitsRead (some bytes) =
+    let high = digitValue (getD bytes 0 0) in
+    let low = digitValue (getD bytes 1 0) in
+    cond (ltb high 16)
+    (cond (ltb low 16) (record { value = 16 * high + low; rest = some (drop 2 bytes) }) (record { value = high; rest = some (drop 1 bytes) }))
+    (record { value = 0; rest = none })
+
+unfoldable pub valueRead : Option (List ℕ) → ValueAndRest
+valueRead rest = digitsRead (behind (ascii "0x") rest)
+
+-- the line ends behind its call, but for spaces, tabs and a comment
+unfoldable pub callIfEnded : Option (List ℕ) → Call → Option (List Call)
+callIfEnded none call = none
+callIfEnded (some bytes) call = cond (isCommentOrNone (afterBlanks bytes)) (some (call ∷ [])) none
+
+-- one call
+unfoldable pub callRead : List ℕ → Option (List Call)
+callRead line =
+    let offset = valueRead (behind (ascii "(") (behind (ascii "WriteI2C") (some line))) in
+    let value = valueRead (behind (ascii ",") (offset .rest)) in
+    callIfEnded (behind (ascii ")") (value .rest)) (record { offset = offset .value; value = value .value })
+
+-- the calls of a line, none or one, or that it has "another shape"
+unfoldable pub lineRead : List ℕ → Option (List Call)
+lineRead line = cond (isCommentOrNone (afterBlanks line)) (some []) (callRead line)
+
+-- the parts of a text between its line feeds: the lines, and last what stands behind the last line feed
+unfoldable pub withByte : ℕ → List (List ℕ) → List (List ℕ)
+withByte byte [] = (byte ∷ []) ∷ []
+withByte byte (part ∷ parts) = (byte ∷ part) ∷ parts
+
+unfoldable pub partsOf : List ℕ → List (List ℕ)
+partsOf [] = [] ∷ []
+partsOf (byte ∷ bytes) = cond (eqb byte 10) ([] ∷ partsOf bytes) (withByte byte (partsOf bytes))
+
+-- What a text is answered: a refusal with its number, a refusal that names a line too, or what was asked for.
+pub data ScriptReply (A : Type 0) : Type 0 where
+  refusal : (number : ℕ) → ScriptReply A
+  refusalAt : (number line : ℕ) → ScriptReply A
+  taken : A → ScriptReply A
+
+-- "by line 15, over 200 bytes, before 14, another shape, each with the line's number"
+abbrev pub shapeReply : Option (List Call) → Reply (List Call)
+shapeReply none = refused 14
+shapeReply (some calls) = given calls
+
+unfoldable pub lineReply : List ℕ → Reply (List Call)
+lineReply line = cond (ltb 200 (length line)) (refused 15) (shapeReply (lineRead line))
+
+-- "Each line ends in one line feed": behind the last one stands nothing, or a line that has none, which is of another shape (ours), and 15 where it is over 200
+-- bytes
+unfoldable pub restReply : ℕ → List ℕ → ScriptReply (List Call)
+restReply number rest = cond (eqb (length rest) 0) (taken []) (refusalAt (cond (ltb 200 (length rest)) 15 14) number)
+
+abbrev pub joinedTo : List Call → ScriptReply (List Call) → ScriptReply (List Call)
+joinedTo here (refusal number) = refusal number
+joinedTo here (refusalAt number line) = refusalAt number line
+joinedTo here (taken later) = taken (here ++ later)
+
+abbrev pub lineThen : ℕ → Reply (List Call) → ScriptReply (List Call) → ScriptReply (List Call)
+lineThen line (refused number) next = refusalAt number line
+lineThen line (given here) next = joinedTo here next
+
+abbrev pub isLast : List (List ℕ) → Bool
+isLast [] = true
+isLast (part ∷ parts) = false
+
+-- the calls of the parts, of which the first has that number
+unfoldable pub callsFrom : ℕ → List (List ℕ) → ScriptReply (List Call)
+callsFrom number [] = taken []
+callsFrom number (part ∷ parts) = cond (isLast parts) (restReply number part) (lineThen number (lineReply part) (callsFrom (suc number) parts))
+
+-- the calls of a text, or its first refusal
+unfoldable pub scriptCalls : List ℕ → ScriptReply (List Call)
+scriptCalls text = callsFrom 1 (partsOf text)
+
+-- "8 last"
+abbrev pub ifTraceRoom : ℕ → List ℕ → ScriptReply (List ℕ)
+ifTraceRoom size trace = cond (ltb size (length trace)) (refusal 8) (taken trace)
+
+abbrev pub traceReply : ℕ → ℕ → ScriptReply (List Call) → ScriptReply (List ℕ)
+traceReply address size (refusal number) = refusal number
+traceReply address size (refusalAt number line) = refusalAt number line
+traceReply address size (taken calls) = ifTraceRoom size (traceOf address calls)
+
+-- "2 for the hub's address, first"
+abbrev pub ifHub : Reply Hub → ScriptReply (List ℕ) → ScriptReply (List ℕ)
+ifHub (refused number) next = refusal number
+ifHub (given hub) next = next
+
+-- the trace of a text, for a buffer of that size
+unfoldable pub scriptTrace : ℕ → List ℕ → ℕ → ScriptReply (List ℕ)
+scriptTrace address text size = ifHub (creationOf address) (traceReply address size (scriptCalls text))
+
+-- the lent buffer after it: "Here and below a lent buffer's rest stays", and a refusal writes nothing
+abbrev pub afterScript : List ℕ → ScriptReply (List ℕ) → List ℕ
+afterScript buffer (refusal number) = buffer
+afterScript buffer (refusalAt number line) = buffer
+afterScript buffer (taken trace) = written buffer 0 trace
+
+-- the answer to the caller: how many bytes, or which refusal
+abbrev pub lengthReply : ScriptReply (List ℕ) → ScriptReply ℕ
+lengthReply (refusal number) = refusal number
+lengthReply (refusalAt number line) = refusalAt number line
+lengthReply (taken trace) = taken (length trace)
+
+-- the paper's number and values for each case of the answer
+abbrev pub traceAnswerReply : TraceAnswer → ScriptReply ℕ
+traceAnswerReply TraceAnswer.AddressOutOfRange = refusal 2
+traceAnswerReply (TraceAnswer.LineTooLong line) = refusalAt 15 line
+traceAnswerReply (TraceAnswer.OtherShape line) = refusalAt 14 line
+traceAnswerReply TraceAnswer.NoRoom = refusal 8
+traceAnswerReply (TraceAnswer.Trace bytes) = taken bytes
