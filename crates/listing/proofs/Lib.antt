@@ -1,0 +1,5 @@
+pub mod TextLaws
+pub mod TraceLaws
+pub mod CountLaws
+pub mod RoomLaws
+pub mod PutLaws

@@ -1,0 +1,28 @@
+-- A trace, its text, and the trace of that text: L1's law over both ways.
+-- Assumes nothing.
+use mathlib.Core.Path.{_≡_}
+use mathlib.Core.Bool.{true}
+use mathlib.Core.List.{List}
+use Prim.Native.Nat.{ℕ, _≤_, _<_}
+use lib.ListN.{length, getD}
+use Rattle.laws.specs.Reply.{given}
+use Rattle.trace.specs.Records.{hubRecord, recordOf}
+use Rattle.script.specs.Reading.{taken, scriptTrace}
+use Rattle.listing.specs.Listing.{traceText}
+use Rattle.playback.specs.Playing.{endHub}
+
+-- every byte of a file is below 256
+abbrev pub AreBytes : List ℕ → Type 0
+AreBytes file = (i : ℕ) → getD file i 0 < 256
+
+-- The text is read again with an address, whatever the room where its trace fits, and what it makes plays to the same end.
+pub record PlaysAlike (address : ℕ) (trace text : List ℕ) : Type 0 where
+  pub again : List ℕ
+  pub read : (room : ℕ) → length again ≤ room → scriptTrace address text room ≡ taken again
+  pub end : endHub again ≡ endHub trace
+
+-- L1: "Text made from a trace and read again with its address plays to the same end state."
+abbrev pub SameEndState : Type 0
+SameEndState =
+    (trace text : List ℕ) (address size : ℕ) → AreBytes trace → recordOf true trace ≡ given (hubRecord address) → traceText trace size ≡ given text
+    → PlaysAlike address trace text
