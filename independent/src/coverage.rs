@@ -3,16 +3,16 @@
 mod conditions;
 mod points;
 
-pub use points::POINTS;
+pub use points::{malformed, POINTS};
 
 use crate::answer::{Answer, Event};
+use crate::counts::Counts;
 use crate::frames::{Format, Outcome};
 use crate::hub::{Direction, Heard, Hub, Role};
 use crate::player::Watch;
 use crate::refusal::Refusal;
 use crate::registers::{register, FPD3_PORT_SEL};
 use crate::trace::{Malformed, Record};
-use std::collections::BTreeMap;
 
 /// What must be remembered of the time before the answer.
 #[derive(Clone, Copy, Default)]
@@ -32,7 +32,7 @@ enum Asked {
 
 #[derive(Clone, Default)]
 pub struct Tally {
-    counts: BTreeMap<&'static str, u64>,
+    counts: Counts,
     letter: &'static str,
     asked: Asked,
 }
@@ -40,34 +40,19 @@ pub struct Tally {
 impl Tally {
     pub fn note(&mut self, point: &'static str) {
         debug_assert!(POINTS.contains(&point), "unlisted point {point}");
-        *self.counts.entry(point).or_default() += 1;
+        self.counts.note(point);
     }
 
-    pub fn count(&self, point: &str) -> u64 {
-        self.counts.get(point).copied().unwrap_or(0)
+    pub fn counts(&self) -> &Counts {
+        &self.counts
     }
 
     pub fn missing(&self) -> Vec<&'static str> {
-        let unseen = |point: &&&'static str| self.count(point) == 0;
-        POINTS.iter().filter(unseen).copied().collect()
+        self.counts.missing(POINTS)
     }
 
     pub fn add(&mut self, other: &Tally) {
-        for (point, count) in &other.counts {
-            *self.counts.entry(point).or_default() += count;
-        }
-    }
-
-    fn note_malformed(&mut self, why: Malformed) {
-        self.note(match why {
-            Malformed::Mark => "13 for the mark",
-            Malformed::Kind => "13 for the kind",
-            Malformed::HubNotFirst => "13 for a first record not of kind 00",
-            Malformed::HubAgain => "13 for kind 00 again",
-            Malformed::Length => "13 for the length",
-            Malformed::Cut => "13 for a record cut short",
-            Malformed::Direction => "13 for the direction",
-        });
+        self.counts.add(&other.counts);
     }
 
     fn note_burst(&mut self, first: u8, values: &[u8], hub: &Hub) {
@@ -203,7 +188,7 @@ impl Watch for Tally {
         self.letter = "";
         let record = match record {
             Ok(record) => record,
-            Err(why) => return self.note_malformed(why),
+            Err(why) => return self.note(points::malformed(why)),
         };
         self.letter = points::letter(record);
         let Some(hub) = hub else {

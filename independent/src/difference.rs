@@ -5,47 +5,57 @@ use std::fs;
 use std::io;
 use std::path::Path;
 
-/// A trace on which the player under test did not do what it should.
+/// A case on which the program under test did not do what it should.
 pub struct Difference {
+    /// What the numbers count.
+    pub noun: &'static str,
     pub number: u64,
     pub kind: &'static str,
     pub what: String,
-    pub trace: Vec<u8>,
-    pub expected: Vec<u8>,
-    pub run: Run,
+    /// What is kept of it, by the ending of the file.
+    pub files: Vec<(&'static str, Vec<u8>)>,
 }
 
 impl Difference {
-    /// Copies the trace and both outputs into the folder; the name they share.
+    /// Writes the files into the folder; the name they share.
     pub fn keep(&self, folder: &Path, seed: u64) -> io::Result<String> {
-        let name = format!("seed-{seed}-trace-{}", self.number);
+        let name = format!("seed-{seed}-{}-{}", self.noun, self.number);
         fs::create_dir_all(folder)?;
-        let files: [(&str, &[u8]); 4] = [
-            ("bin", &self.trace),
-            ("expected.txt", &self.expected),
-            ("actual.txt", &self.run.output),
-            ("stderr.txt", &self.run.complaints),
-        ];
-        for (ending, bytes) in files {
+        for (ending, bytes) in &self.files {
             fs::write(folder.join(format!("{name}.{ending}")), bytes)?;
         }
         Ok(name)
     }
 }
 
+/// The one with the lower number, where there are two.
+pub fn earlier(first: Option<Difference>, second: Option<Difference>) -> Option<Difference> {
+    match (first, second) {
+        (Some(first), Some(second)) if second.number < first.number => Some(second),
+        (first, second) => first.or(second),
+    }
+}
+
+/// What a run must have on its standard error.
+#[derive(Clone, Copy, Debug, PartialEq, Eq)]
+pub enum Complaints {
+    Nothing,
+    Something,
+    OneLine,
+}
+
 /// What is wrong with a run, if anything.
-pub fn judge(run: &Run, expected: &[u8]) -> Option<String> {
+pub fn judge(run: &Run, expected: &[u8], complaints: Complaints) -> Option<String> {
     match run.ending {
-        Ending::TookTooLong => return Some("the player did not come to an end".into()),
-        Ending::PrintedTooMuch => return Some("the player did not stop printing".into()),
+        Ending::TookTooLong => return Some("the program did not come to an end".into()),
+        Ending::PrintedTooMuch => return Some("the program did not stop printing".into()),
         Ending::Exited(_) => {}
     }
     if run.output != expected {
         return Some(first_differing_line(expected, &run.output));
     }
-    if !run.complaints.is_empty() {
-        let said = shown(run.complaints.split(|&byte| byte == b'\n').next());
-        return Some(format!("its standard error is not empty: {said}"));
+    if let Some(what) = judge_complaints(&run.complaints, complaints) {
+        return Some(what);
     }
     match run.ending {
         Ending::Exited(status) if !status.success() => {
@@ -53,6 +63,21 @@ pub fn judge(run: &Run, expected: &[u8]) -> Option<String> {
         }
         _ => None,
     }
+}
+
+fn judge_complaints(said: &[u8], wanted: Complaints) -> Option<String> {
+    let mut lines = said.split_inclusive(|&byte| byte == b'\n');
+    let first = lines.next();
+    let ends = first.is_some_and(|line| line.ends_with(b"\n"));
+    let one_line = ends && lines.next().is_none();
+    let wrong = match wanted {
+        Complaints::Nothing if !said.is_empty() => "is not empty",
+        Complaints::Something if said.is_empty() => "is empty",
+        Complaints::OneLine if !one_line => "is not one line",
+        _ => return None,
+    };
+    let first = first.map(|line| line.strip_suffix(b"\n").unwrap_or(line));
+    Some(format!("its standard error {wrong}: {}", shown(first)))
 }
 
 fn first_differing_line(expected: &[u8], got: &[u8]) -> String {

@@ -1,5 +1,6 @@
-//! A second opinion on the DS90UB964-Q1 hub: the rules of document 01 written anew, a seeded
-//! generator of traces, and a comparison of any trace player with the one written here.
+//! A second opinion on the DS90UB964-Q1 hub: the rules of document 01 and of request L1 written
+//! anew, seeded generators of traces and scripts, and a comparison of any trace player and of any
+//! converter of scripts with the ones written here.
 
 #![deny(unsafe_code)]
 
@@ -9,6 +10,10 @@ pub mod bench;
 pub mod cases;
 pub mod checksum;
 pub mod compare;
+pub mod compare_scripts;
+pub mod comparison;
+pub mod convert;
+pub mod counts;
 pub mod coverage;
 pub mod difference;
 #[cfg(feature = "proved")]
@@ -30,4 +35,5 @@ pub mod samples;
 pub mod script;
 pub mod text;
 pub mod trace;
+pub mod writei2c;
 pub mod yardstick;

@@ -1,9 +1,11 @@
-//! The command line: play a trace, compare a player with this package's own, answer the worked
-//! cases, write the samples, generate traces, time the proved code.
+//! The command line: play a trace, turn a script into a trace and back, compare a player or a
+//! converter with this package's own, answer the worked cases, write the samples, generate traces,
+//! time the proved code.
 
+mod commands;
+
+use commands::{cannot_print, cannot_write, compare, convert, number, Failure};
 use independent::cases;
-use independent::compare::{self, Settings};
-use independent::coverage::POINTS;
 use independent::generate::{self, large, Kind};
 use independent::player::{play, PlayError, Unwatched};
 use independent::rng::Rng;
@@ -11,18 +13,14 @@ use independent::samples;
 use std::ffi::OsString;
 use std::fs::File;
 use std::io::{BufReader, BufWriter, ErrorKind, Write};
-use std::path::{Path, PathBuf};
+use std::path::Path;
 use std::process::ExitCode;
 
 const USAGE: &str = "use: independent play FILE | cases | samples FOLDER | \
+convert trace ADDRESS SCRIPT OUT | convert text TRACE | \
 compare PLAYER [--seed S] [--count N] [--keep DIR] [--tally] | \
+compare-scripts CONVERT [--seed S] [--count N] [--keep DIR] [--tally] | \
 generate SEED KIND OUT | generate SEED large RECORDS OUT | bench PLAYER";
-
-/// How a command failed: called wrongly, or could not do its work. An empty text says nothing.
-enum Failure {
-    Call(String),
-    Work(String),
-}
 
 fn main() -> ExitCode {
     let arguments: Vec<OsString> = std::env::args_os().skip(1).collect();
@@ -46,7 +44,12 @@ fn run(arguments: &[OsString]) -> Result<(), Failure> {
         ("play", [file]) => play_file(Path::new(file)),
         ("cases", []) => print_cases(),
         ("samples", [folder]) => write_samples(Path::new(folder)),
-        ("compare", [player, options @ ..]) => compare_player(player, options),
+        ("convert", [what, address, script, out]) if what == "trace" => {
+            convert::trace(address, Path::new(script), Path::new(out))
+        }
+        ("convert", [what, trace]) if what == "text" => convert::text(Path::new(trace)),
+        ("compare", [player, options @ ..]) => compare::players(player, options),
+        ("compare-scripts", [converter, options @ ..]) => compare::converters(converter, options),
         ("generate", [seed, kind, out]) => generate_one(seed, kind, Path::new(out)),
         ("generate", [seed, kind, records, out]) if kind == "large" => {
             generate_large(seed, records, Path::new(out))
@@ -58,7 +61,7 @@ fn run(arguments: &[OsString]) -> Result<(), Failure> {
 
 fn print_cases() -> Result<(), Failure> {
     let written = std::io::stdout().write_all(cases::report().as_bytes());
-    written.map_err(|error| Failure::Work(format!("cannot write the output: {error}")))
+    written.map_err(cannot_print)
 }
 
 fn write_samples(folder: &Path) -> Result<(), Failure> {
@@ -81,69 +84,13 @@ fn play_file(path: &Path) -> Result<(), Failure> {
         Err(PlayError::Output(error)) if error.kind() == ErrorKind::BrokenPipe => {
             Err(Failure::Work(String::new())) // whoever reads the output has seen enough
         }
-        Err(PlayError::Output(error)) => {
-            Err(Failure::Work(format!("cannot write the output: {error}")))
-        }
+        Err(PlayError::Output(error)) => Err(cannot_print(error)),
     }
-}
-
-fn compare_player(player: &OsString, options: &[OsString]) -> Result<(), Failure> {
-    let (settings, show_tally) = settings(player, options)?;
-    let findings = compare::compare(&settings).map_err(|error| {
-        Failure::Work(format!(
-            "{error}; give a program that takes a trace file as its only argument"
-        ))
-    })?;
-    if let Some(difference) = &findings.difference {
-        let folder = settings.keep.display();
-        let kept = match difference.keep(&settings.keep, settings.seed) {
-            Ok(name) => format!("kept as {folder}/{name}.*"),
-            Err(error) => format!("not kept, cannot write to {folder}: {error}"),
-        };
-        return Err(Failure::Work(format!(
-            "difference with seed {}, trace {} ({}): {}; {kept}",
-            settings.seed, difference.number, difference.kind, difference.what
-        )));
-    }
-    let mut report = String::new();
-    if show_tally {
-        for point in POINTS {
-            report += &format!("{:>9}  {point}\n", findings.tally.count(point));
-        }
-    }
-    report += &findings.summary().map_err(Failure::Work)?;
-    let _ = writeln!(std::io::stdout(), "{report}");
-    Ok(())
-}
-
-fn settings(player: &OsString, options: &[OsString]) -> Result<(Settings, bool), Failure> {
-    // A bare name means the file here, if there is one, rather than a command of the system.
-    let player = std::fs::canonicalize(player).unwrap_or_else(|_| PathBuf::from(player));
-    let mut settings = Settings::new(player);
-    let mut show_tally = false;
-    let mut rest = options.iter();
-    while let Some(option) = rest.next() {
-        let name = option.to_string_lossy();
-        if name == "--tally" {
-            show_tally = true;
-            continue;
-        }
-        let value = match (name.as_ref(), rest.next()) {
-            ("--seed" | "--count" | "--keep", Some(value)) => value,
-            _ => return Err(Failure::Call(format!("{name} is not understood; {USAGE}"))),
-        };
-        match name.as_ref() {
-            "--seed" => settings.seed = number(value, "the seed")?,
-            "--count" => settings.count = number(value, "the count")?,
-            _ => settings.keep = PathBuf::from(value),
-        }
-    }
-    Ok((settings, show_tally))
 }
 
 #[cfg(feature = "proved")]
 fn bench_player(player: &OsString) -> Result<(), Failure> {
-    let player = std::fs::canonicalize(player).unwrap_or_else(|_| PathBuf::from(player));
+    let player = commands::program(player);
     let benched = independent::bench::run(&player, &mut std::io::stdout());
     benched.map_err(|error| Failure::Work(error.to_string()))
 }
@@ -173,17 +120,4 @@ fn generate_large(seed: &OsString, records: &OsString, out: &Path) -> Result<(),
     let mut output = BufWriter::with_capacity(1 << 16, file);
     let written = large::write(&mut rng, records, &mut output).and_then(|()| output.flush());
     written.map_err(|error| cannot_write(out, error))
-}
-
-fn cannot_write(path: &Path, error: std::io::Error) -> Failure {
-    Failure::Work(format!("cannot write {}: {error}", path.display()))
-}
-
-fn number(text: &OsString, what: &str) -> Result<u64, Failure> {
-    let text = text.to_string_lossy();
-    text.parse().map_err(|_| {
-        Failure::Call(format!(
-            "{what} must be a whole number from 0 up, and {text} is not"
-        ))
-    })
 }

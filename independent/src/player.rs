@@ -168,3 +168,14 @@ pub fn text_of<T: Watch>(trace: &[u8], watch: &mut T) -> (Vec<u8>, Totals) {
     let totals = play(trace, &mut text, watch).unwrap_or_default();
     (text, totals)
 }
+
+/// The hub after the records of a trace in memory, if there is one.
+pub fn end_state(trace: &[u8]) -> Option<Hub> {
+    let mut reader = RecordReader::new(trace);
+    let mut player = Player::default();
+    // A slice never fails to be read, and a malformed record ends the run.
+    while let Ok(Some(Ok(record))) = reader.next_record() {
+        player.answer(&record);
+    }
+    player.hub
+}

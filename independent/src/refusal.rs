@@ -1,4 +1,4 @@
-//! The refusals of document 01 and their numbers.
+//! The refusals of document 01 and of request L1, and their numbers.
 
 #[derive(Clone, Copy, Debug, PartialEq, Eq)]
 #[repr(u8)]
@@ -16,6 +16,9 @@ pub enum Refusal {
     ChecksumWrong = 11,
     TooFewBytes = 12,
     RecordMalformed = 13,
+    LineShape = 14,
+    LineTooLong = 15,
+    NoTextForm = 16,
 }
 
 impl Refusal {

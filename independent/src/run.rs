@@ -1,16 +1,17 @@
-//! Runs the player under test on one trace file, with a limit on its time and its output: what
-//! it prints goes through pipes that are read up to a limit, and no run outlives its question.
+//! Runs the program under test on one question, with a limit on its time and its output: what it
+//! prints goes through pipes that are read up to a limit, and no run outlives its question.
 
-use std::io::{self, Read};
+use std::ffi::OsStr;
+use std::io::{self, Read, Write};
 use std::path::{Path, PathBuf};
 use std::process::{Child, Command, ExitStatus, Stdio};
 use std::sync::mpsc::{self, Receiver};
 use std::time::{Duration, Instant};
 
-/// Bytes a player may print beyond what it should before its run is given up.
+/// Bytes a program may print beyond what it should before its run is given up.
 const SLACK: u64 = 1 << 16;
 
-/// What the player did with a trace.
+/// What the program did with its question.
 pub struct Run {
     pub ending: Ending,
     pub output: Vec<u8>,
@@ -23,9 +24,10 @@ pub enum Ending {
     PrintedTooMuch,
 }
 
-/// The player under test and how long a run of it may take.
+/// The program under test, what it is, and how long a run of it may take.
 pub struct Subject<'a> {
-    pub player: &'a Path,
+    pub program: &'a Path,
+    pub role: &'static str,
     pub time_limit: Duration,
 }
 
@@ -34,7 +36,7 @@ pub struct Desk {
     trace_file: PathBuf,
 }
 
-/// A player that is running; it is ended when this is dropped.
+/// A program that is running; it is ended when this is dropped.
 struct Running(Child);
 
 impl Drop for Running {
@@ -45,8 +47,8 @@ impl Drop for Running {
 }
 
 impl Desk {
-    pub fn new(folder: &Path, worker: usize) -> Desk {
-        let trace_file = folder.join(format!("trace-{worker}.bin"));
+    pub fn new(folder: &Path) -> Desk {
+        let trace_file = folder.join("trace.bin");
         Desk { trace_file }
     }
 
@@ -54,15 +56,29 @@ impl Desk {
     pub fn run(&self, subject: &Subject, trace: &[u8], expected: u64) -> io::Result<Run> {
         let file = &self.trace_file;
         std::fs::write(file, trace).map_err(|error| told(error, "write", file))?;
-        let child = Command::new(subject.player)
-            .arg(file)
-            .stdin(Stdio::null())
+        subject.run(&[file.as_os_str()], None, expected)
+    }
+}
+
+impl Subject<'_> {
+    /// One run whose right output has `expected` bytes; the input goes through a pipe.
+    pub fn run(
+        &self,
+        arguments: &[&OsStr],
+        input: Option<&[u8]>,
+        expected: u64,
+    ) -> io::Result<Run> {
+        let stdin = input.map_or_else(Stdio::null, |_| Stdio::piped());
+        let child = Command::new(self.program)
+            .args(arguments)
+            .stdin(stdin)
             .stdout(Stdio::piped())
             .stderr(Stdio::piped())
             .spawn()
-            .map_err(|error| told(error, "run the player", subject.player))?;
-        let deadline = Instant::now() + subject.time_limit;
+            .map_err(|error| told(error, &format!("run the {}", self.role), self.program))?;
+        let deadline = Instant::now() + self.time_limit;
         let mut running = Running(child);
+        feed(running.0.stdin.take(), input.unwrap_or_default());
         let most = expected + SLACK;
         let output = gather(running.0.stdout.take(), most);
         let complaints = gather(running.0.stderr.take(), SLACK);
@@ -83,7 +99,7 @@ impl Desk {
 }
 
 impl Running {
-    /// The end of a player that has closed its outputs, which is due at once.
+    /// The end of a program that has closed its outputs, which is due at once.
     fn wait(&mut self, deadline: Instant) -> io::Result<Ending> {
         let mut nap = Duration::from_micros(20);
         loop {
@@ -96,6 +112,16 @@ impl Running {
             std::thread::sleep(nap);
             nap = (nap * 2).min(Duration::from_millis(20));
         }
+    }
+}
+
+/// Writes the input on the side; a program that does not read it all is judged by what it prints.
+fn feed(pipe: Option<impl Write + Send + 'static>, input: &[u8]) {
+    let input = input.to_vec();
+    if let Some(mut pipe) = pipe {
+        std::thread::spawn(move || {
+            let _ = pipe.write_all(&input);
+        });
     }
 }
 
@@ -118,7 +144,7 @@ fn left(deadline: Instant) -> Duration {
 }
 
 /// The error with what was tried and on which path.
-fn told(error: io::Error, tried: &str, path: &Path) -> io::Error {
+pub fn told(error: io::Error, tried: &str, path: &Path) -> io::Error {
     let text = format!("cannot {tried} {}: {error}", path.display());
     io::Error::new(error.kind(), text)
 }

@@ -1,11 +1,39 @@
-//! The sample traces, record by record: document 01's whole case, a four-camera weighbridge that is
-//! set up right, and the same set-up with one wrong page selection.
+//! The samples. Record by record: document 01's whole case, a four-camera weighbridge that is set
+//! up right, and the same set-up with one wrong page selection. And the scripts that the data sheet
+//! prints, turned into traces.
 
+use crate::convert::to_trace;
 use crate::script::Script;
+use std::fs;
 use std::io;
 use std::path::Path;
 
-/// Writes each sample into the folder, as NAME.trace.
+const HUB: u8 = 0x3D;
+
+macro_rules! script {
+    ($name:literal) => {
+        (
+            $name,
+            include_bytes!(concat!("../../samples/datasheet/", $name, ".script")),
+        )
+    };
+}
+
+/// The ten blocks of calls in the data sheet, by name, in its order.
+pub const SCRIPTS: [(&str, &[u8]); 10] = [
+    script!("cmlout"),
+    script!("csi_timing_400mbps"),
+    script!("framesync_internal"),
+    script!("forwarding_synchronized"),
+    script!("forwarding_line_interleaved"),
+    script!("forwarding_line_concatenated"),
+    script!("broadcast_write"),
+    script!("i2c_fast_mode_plus"),
+    script!("interrupts_enable"),
+    script!("pattern_generator"),
+];
+
+/// Writes each sample into the folder, as NAME.trace; those of the scripts into its `datasheet`.
 pub fn write_all(folder: &Path) -> io::Result<()> {
     let samples = [
         ("whole_case", whole_case()),
@@ -13,14 +41,21 @@ pub fn write_all(folder: &Path) -> io::Result<()> {
         ("wrong_page", weighbridge(0x12)),
     ];
     for (name, script) in samples {
-        std::fs::write(folder.join(format!("{name}.trace")), script.as_bytes())?;
+        fs::write(folder.join(format!("{name}.trace")), script.as_bytes())?;
+    }
+    let folder = folder.join("datasheet");
+    fs::create_dir_all(&folder)?;
+    for (name, text) in SCRIPTS {
+        let refused = |refused| io::Error::other(format!("{name}.script is refused: {refused}"));
+        let trace = to_trace(HUB, text).map_err(refused)?;
+        fs::write(folder.join(format!("{name}.trace")), trace)?;
     }
     Ok(())
 }
 
 /// Document 01, "The trace and the player".
 fn whole_case() -> Script {
-    let mut script = Script::with_hub(0x3D);
+    let mut script = Script::with_hub(HUB);
     script.write(0x4C, 0x12);
     script.write(0x58, 0x58);
     script.write(0x5D, 0x60);
@@ -41,7 +76,7 @@ fn whole_case() -> Script {
 /// all have the address 0x30 on their own bus, and get the addresses 0x31 to 0x34. The block for
 /// lane B's front camera has its page selection as it is given here; 0x24 is port 2.
 fn weighbridge(lane_b_front: u8) -> Script {
-    let mut script = Script::with_hub(0x3D);
+    let mut script = Script::with_hub(HUB);
     let cameras = [
         (0x01, 0x62, 0x2B),
         (0x12, 0x64, 0x6B),

@@ -1,50 +1,18 @@
 //! The comparison: it passes a right player, and finds and keeps what a wrong one does.
 #![cfg(unix)]
 
-use independent::compare::{compare, Findings, Settings};
+mod common;
+
+use common::Bench;
+use independent::compare::{compare, Findings};
+use independent::comparison::{Found, Settings};
 use std::fs;
-use std::os::unix::fs::PermissionsExt;
-use std::path::{Path, PathBuf};
-use std::sync::{Mutex, MutexGuard, PoisonError};
+use std::path::PathBuf;
 use std::time::Duration;
 
-const OWN: &str = env!("CARGO_BIN_EXE_independent");
-
-/// One test at a time: a script cannot be run while a process just started still holds it.
-static TURN: Mutex<()> = Mutex::new(());
-
-/// A folder of this test with a player that is a shell script around the own one.
-struct Bench {
-    folder: PathBuf,
-    _turn: MutexGuard<'static, ()>,
-}
-
 impl Bench {
-    fn new(name: &str) -> Bench {
-        let turn = TURN.lock().unwrap_or_else(PoisonError::into_inner);
-        let folder = Path::new(env!("CARGO_TARGET_TMPDIR")).join(name);
-        let _ = fs::remove_dir_all(&folder);
-        fs::create_dir_all(&folder).unwrap();
-        Bench {
-            folder,
-            _turn: turn,
-        }
-    }
-
-    fn settings(&self, script: &str) -> Settings {
-        let player = self.folder.join("player.sh");
-        let script = script.replace("OWN", OWN);
-        fs::write(&player, format!("#!/bin/sh\n{script}\n")).unwrap();
-        fs::set_permissions(&player, fs::Permissions::from_mode(0o755)).unwrap();
-        let mut settings = Settings::new(player);
-        settings.count = 60;
-        settings.keep = self.folder.join("kept");
-        settings.time_limit = Duration::from_secs(20);
-        settings
-    }
-
     fn findings(&self, script: &str) -> Findings {
-        compare(&self.settings(script)).unwrap()
+        compare(&self.settings(script, 60)).unwrap()
     }
 }
 
@@ -104,7 +72,7 @@ fn a_failing_exit_is_found() {
 #[test]
 fn a_player_that_takes_too_long_is_ended() {
     let bench = Bench::new("endless");
-    let mut settings = bench.settings("exec sleep 3");
+    let mut settings = bench.settings("exec sleep 3", 60);
     settings.time_limit = Duration::from_millis(300);
     let findings = compare(&settings).unwrap();
     assert!(what(&findings).contains("did not come to an end"));
@@ -113,7 +81,7 @@ fn a_player_that_takes_too_long_is_ended() {
 #[test]
 fn a_player_that_closes_its_outputs_and_stays_is_ended() {
     let bench = Bench::new("staying");
-    let mut settings = bench.settings("OWN play \"$1\"; exec sleep 3 >&- 2>&-");
+    let mut settings = bench.settings("OWN play \"$1\"; exec sleep 3 >&- 2>&-", 60);
     settings.time_limit = Duration::from_millis(300);
     let findings = compare(&settings).unwrap();
     assert!(what(&findings).contains("did not come to an end"));
@@ -130,7 +98,7 @@ fn a_player_that_prints_far_too_much_is_ended() {
 
 #[test]
 fn a_player_that_is_not_there_is_told() {
-    let settings = Settings::new(PathBuf::from("/no/such/player"));
+    let settings = Settings::new(PathBuf::from("/no/such/player"), 60);
     let error = compare(&settings).err().unwrap().to_string();
     assert!(error.starts_with("cannot run the player /no/such/player"));
 }

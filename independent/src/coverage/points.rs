@@ -2,7 +2,7 @@
 
 use crate::answer::Event;
 use crate::hub::Direction;
-use crate::trace::Record;
+use crate::trace::{Malformed, Record};
 
 pub const POINTS: &[&str] = &[
     "an empty file",
@@ -128,6 +128,18 @@ pub fn letter(record: &Record) -> &'static str {
         Record::FrameStart { .. } => "S",
         Record::FrameEnd { .. } => "E",
         Record::Line { .. } => "L",
+    }
+}
+
+pub fn malformed(why: Malformed) -> &'static str {
+    match why {
+        Malformed::Mark => "13 for the mark",
+        Malformed::Kind => "13 for the kind",
+        Malformed::HubNotFirst => "13 for a first record not of kind 00",
+        Malformed::HubAgain => "13 for kind 00 again",
+        Malformed::Length => "13 for the length",
+        Malformed::Cut => "13 for a record cut short",
+        Malformed::Direction => "13 for the direction",
     }
 }
 

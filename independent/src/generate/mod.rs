@@ -9,6 +9,7 @@ mod edges;
 pub mod large;
 mod numbers;
 mod orders;
+pub mod scripts;
 mod shapes;
 mod traffic;
 mod values;
@@ -143,17 +144,17 @@ pub fn numbered(seed: u64, number: u64) -> (Kind, Vec<u8>) {
         2..=5 => (Kind::OneByte, number),
         200 => (Kind::Wrap, 0),
         400 | 600 | 800 => (Kind::Long, 0),
-        _ => scheduled(number),
+        _ => scheduled(&SCHEDULE, number),
     };
     (kind, trace(kind, &mut rng, turn))
 }
 
-/// The kind the schedule gives, and how often that kind was scheduled before.
-fn scheduled(number: u64) -> (Kind, u64) {
-    let length = SCHEDULE.len() as u64;
+/// What the schedule gives, and how often that was scheduled before.
+fn scheduled<K: Copy + PartialEq>(schedule: &[K], number: u64) -> (K, u64) {
+    let length = schedule.len() as u64;
     let place = (number % length) as usize;
-    let kind = SCHEDULE[place];
-    let times = |part: &[Kind]| part.iter().filter(|&&other| other == kind).count() as u64;
-    let turn = number / length * times(&SCHEDULE) + times(&SCHEDULE[..place]);
+    let kind = schedule[place];
+    let times = |part: &[K]| part.iter().filter(|&&other| other == kind).count() as u64;
+    let turn = number / length * times(schedule) + times(&schedule[..place]);
     (kind, turn)
 }

@@ -1,0 +1,67 @@
+//! The command `convert`, with the streams of the proved program: a refusal stands on standard
+//! output, and what it means on standard error.
+
+use super::{cannot_print, cannot_write, Failure};
+use independent::convert::{to_text, to_trace, Refused, MOST_BYTES};
+use std::ffi::OsString;
+use std::fs::File;
+use std::io::{self, Read, Write};
+use std::path::Path;
+
+pub fn trace(address: &OsString, script: &Path, out: &Path) -> Result<(), Failure> {
+    let address = hex_byte(&address.to_string_lossy())?;
+    let Some(text) = read(script)? else {
+        return too_long(script);
+    };
+    match to_trace(address, &text) {
+        Ok(trace) => std::fs::write(out, trace).map_err(|error| cannot_write(out, error)),
+        Err(refused) => tell(script, refused),
+    }
+}
+
+pub fn text(trace: &Path) -> Result<(), Failure> {
+    let Some(bytes) = read(trace)? else {
+        return too_long(trace);
+    };
+    match to_text(&bytes) {
+        Ok(text) => io::stdout().write_all(&text).map_err(cannot_print),
+        Err(refused) => tell(trace, refused),
+    }
+}
+
+/// Two hex digits in either case.
+fn hex_byte(text: &str) -> Result<u8, Failure> {
+    let is_hex = text.len() == 2 && text.bytes().all(|byte| byte.is_ascii_hexdigit());
+    let byte = u8::from_str_radix(text, 16).ok().filter(|_| is_hex);
+    let problem = || Failure::Call(format!("the address must be two hex digits, not {text}"));
+    byte.ok_or_else(problem)
+}
+
+/// The file, or standard input for -; nothing if it is too long.
+fn read(path: &Path) -> Result<Option<Vec<u8>>, Failure> {
+    let mut bytes = Vec::new();
+    let most = MOST_BYTES as u64 + 1;
+    let got = if path.as_os_str() == "-" {
+        io::stdin().take(most).read_to_end(&mut bytes)
+    } else {
+        File::open(path).and_then(|file| file.take(most).read_to_end(&mut bytes))
+    };
+    let cannot_read = |error| format!("cannot read {}: {error}", path.display());
+    let got = got.map_err(|error| Failure::Work(cannot_read(error)))?;
+    Ok((got <= MOST_BYTES).then_some(bytes))
+}
+
+/// Exit status 0, as the proved program has no other.
+fn too_long(path: &Path) -> Result<(), Failure> {
+    let _ = writeln!(
+        io::stderr(),
+        "{} has more than {MOST_BYTES} bytes",
+        path.display()
+    );
+    Ok(())
+}
+
+fn tell(path: &Path, refused: Refused) -> Result<(), Failure> {
+    let _ = writeln!(io::stderr(), "{} is refused", path.display());
+    writeln!(io::stdout(), "{refused}").map_err(cannot_print)
+}

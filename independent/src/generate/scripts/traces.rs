@@ -1,0 +1,167 @@
+//! Traces of hub and write records, and such traces with something else in them.
+
+use crate::generate::{self, values, Kind};
+use crate::rng::Rng;
+use crate::script::Script;
+use crate::trace::{ADDRESS, FRAME_END, FRAME_START, HUB_ADDRESS, LINE, MARK, READ, WRITE};
+
+const NO_TEXT_FORM: [u8; 5] = [READ, ADDRESS, FRAME_START, FRAME_END, LINE];
+
+/// The kinds of the other generator, whose traces are damaged or have records without text.
+const OTHERS: [Kind; 12] = [
+    Kind::Case,
+    Kind::Traffic,
+    Kind::Bursts,
+    Kind::Edges,
+    Kind::ChangedByte,
+    Kind::Cut,
+    Kind::Inserted,
+    Kind::BrokenMark,
+    Kind::Trailing,
+    Kind::Shapes,
+    Kind::Noise,
+    Kind::OneByte,
+];
+
+fn write(script: &mut Script, rng: &mut Rng) {
+    let first = match rng.below(3) {
+        0 => rng.byte(),
+        1 => rng.between(0xF0, 0xFF) as u8,
+        _ => values::offset(rng),
+    };
+    let count = match rng.below(12) {
+        0 => 254,
+        1 => rng.between(20, 253),
+        2..=4 => rng.between(2, 20),
+        _ => 1,
+    };
+    let values = rng.bytes(count as usize);
+    script.burst(first, &values);
+}
+
+fn writes(script: &mut Script, rng: &mut Rng, most: u64) {
+    for _ in 0..rng.between(0, most) {
+        write(script, rng);
+    }
+}
+
+/// The hub record and up to so many write records.
+pub fn right(rng: &mut Rng, most: u64) -> Vec<u8> {
+    let mut script = Script::with_hub(values::hub_address(rng));
+    writes(&mut script, rng, most);
+    script.into_bytes()
+}
+
+/// Each offset and each value at least once, one value a record and in bursts.
+pub fn every_byte() -> Vec<u8> {
+    let mut script = Script::with_hub(0x3D);
+    let all: Vec<u8> = (0..=255).collect();
+    for &byte in &all {
+        script.write(byte, 255 - byte);
+    }
+    script.burst(0x80, &all[..254]);
+    script.burst(0x7E, &all[2..]);
+    script.into_bytes()
+}
+
+/// Few bytes with a bit of everything, for edits at each place.
+pub fn short() -> Vec<u8> {
+    let mut script = Script::with_hub(0x3D);
+    script.write(0x4C, 0x0F);
+    script.burst(0xFE, &[0x00, 0x9A, 0x64, 0x01]);
+    script.write(0x58, 0x58);
+    script.into_bytes()
+}
+
+/// A record with no text form, each kind in turn, with its right shape or not.
+fn no_text(script: &mut Script, rng: &mut Rng, turn: usize, right: bool) {
+    let kind = NO_TEXT_FORM[turn % NO_TEXT_FORM.len()];
+    let length = match kind {
+        READ | FRAME_END => 1,
+        LINE => 5,
+        _ => 2,
+    };
+    let mut data: Vec<u8> = (0..length).map(|_| rng.below(2) as u8).collect();
+    match (right, kind) {
+        (true, _) => {}
+        (false, ADDRESS) if rng.one_in(2) => data[1] = rng.pick(&values::BAD_DIRECTIONS),
+        (false, _) if rng.one_in(2) => data.push(0),
+        (false, _) => drop(data.pop()),
+    }
+    script.record(kind, &data);
+}
+
+/// What stands behind the record that decides: in turn writes, a cut record, a record with no text
+/// form, nothing.
+fn behind(script: &mut Script, rng: &mut Rng, turn: usize) {
+    match turn % 4 {
+        0 => writes(script, rng, 3),
+        1 => script.raw(&[MARK[0], MARK[1], WRITE, 0x02, 0x4C]),
+        2 => no_text(script, rng, turn / 4, true),
+        _ => {}
+    }
+}
+
+/// What is no record where it stands: wrong shapes, a second hub record, another kind, another mark.
+fn no_record(script: &mut Script, rng: &mut Rng, turn: usize) {
+    match turn % 8 {
+        0..=2 => no_text(script, rng, turn, false),
+        3 => script.record(HUB_ADDRESS, &[0x3D]),
+        4 => script.record(WRITE, &[rng.byte()]),
+        5 => script.record(WRITE, &[]),
+        6 => script.record(rng.pick(&[0x04, 0x0F, 0x13, 0x80, 0xFF]), &[0x4C, 0x0F]),
+        _ => script.raw(&[0x9A, 0x65, WRITE, 0x02, 0x4C, 0x0F]),
+    }
+}
+
+/// Among writes a record with no text form, and every other time what is no record.
+pub fn without_text(rng: &mut Rng, turn: usize) -> Vec<u8> {
+    let mut script = Script::with_hub(values::hub_address(rng));
+    writes(&mut script, rng, 6);
+    if turn.is_multiple_of(2) {
+        no_text(&mut script, rng, turn / 2, true);
+    } else {
+        no_record(&mut script, rng, turn / 2);
+    }
+    behind(&mut script, rng, turn / 2 / NO_TEXT_FORM.len());
+    script.into_bytes()
+}
+
+/// The first record is right but not the hub's, or the hub's with no byte or two.
+pub fn first(rng: &mut Rng, turn: usize) -> Vec<u8> {
+    let mut script = Script::default();
+    match turn % 8 {
+        0 => write(&mut script, rng),
+        1 => script.record(HUB_ADDRESS, &[]),
+        2 => script.record(HUB_ADDRESS, &[0x3D, 0x00]),
+        _ => no_text(&mut script, rng, turn, true),
+    }
+    writes(&mut script, rng, 3);
+    script.into_bytes()
+}
+
+/// A hub record with an address that no hub has; every fourth time it is not even a record.
+pub fn bad_hub(rng: &mut Rng, turn: usize) -> Vec<u8> {
+    let addresses = values::BAD_HUB_ADDRESSES;
+    let address = addresses[turn % addresses.len()];
+    let mut script = Script::default();
+    if rng.one_in(4) {
+        script.record(HUB_ADDRESS, &[address, address]);
+    } else {
+        script.record(HUB_ADDRESS, &[address]);
+    }
+    behind(&mut script, rng, turn / addresses.len());
+    script.into_bytes()
+}
+
+pub fn cut(turn: usize) -> Vec<u8> {
+    let mut trace = short();
+    trace.truncate(turn % (trace.len() + 1));
+    trace
+}
+
+/// A trace of the other generator.
+pub fn other(rng: &mut Rng, turn: usize) -> Vec<u8> {
+    let kind = OTHERS[turn % OTHERS.len()];
+    generate::trace(kind, rng, (turn / OTHERS.len()) as u64)
+}

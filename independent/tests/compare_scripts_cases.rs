@@ -1,0 +1,161 @@
+//! The comparison of converters: it passes a right one, and finds and keeps what a wrong one does.
+#![cfg(unix)]
+
+mod common;
+
+use common::Bench;
+use independent::compare_scripts::{compare, Findings};
+use independent::comparison::{Found, Settings};
+use independent::samples::SCRIPTS;
+use std::fs;
+use std::path::PathBuf;
+use std::time::Duration;
+
+const RIGHT: &str = "exec OWN convert \"$@\"";
+
+impl Bench {
+    fn findings(&self, script: &str, count: u64) -> Findings {
+        compare(&self.settings(script, count)).unwrap()
+    }
+}
+
+/// What is found in a converter that does this, among the first cases.
+fn found(name: &str, script: &str) -> String {
+    let findings = Bench::new(name).findings(script, 400);
+    findings.difference.map_or("nothing".into(), |it| it.what)
+}
+
+#[test]
+fn a_right_converter_passes_and_too_few_cases_do_not() {
+    let findings = Bench::new("right-converter").findings(RIGHT, 60);
+    assert!(findings.difference.is_none());
+    assert_eq!(findings.texts + findings.traces, 60);
+    assert!(findings.summary().unwrap_err().contains("raise --count"));
+}
+
+#[test]
+fn a_right_converter_reaches_every_point() {
+    let findings = Bench::new("whole-comparison").findings(RIGHT, 2500);
+    assert!(findings.difference.is_none());
+    assert!(findings.summary().unwrap().ends_with("0 differences"));
+}
+
+#[test]
+fn a_changed_byte_of_the_trace_is_found_and_kept() {
+    let bench = Bench::new("changed-trace");
+    let script = "OWN convert \"$@\"; [ $1 = text ] || printf X | dd of=\"$4\" bs=1 seek=4 conv=notrunc 2>/dev/null";
+    let difference = bench.findings(script, 60).difference.unwrap();
+    assert_eq!((difference.number, difference.kind), (0, "sample"));
+    let expected = "the trace's file should have 65 bytes and has 65, which differ from byte 4 on";
+    assert_eq!(difference.what, expected);
+    let kept = bench.folder.join("kept");
+    let name = difference.keep(&kept, 964).unwrap();
+    assert_eq!(name, "seed-964-case-0");
+    let file = |ending: &str| fs::read(kept.join(format!("{name}.{ending}"))).unwrap();
+    assert_eq!(file("script"), SCRIPTS[0].1);
+    assert!(file("call.txt").starts_with(b"convert trace "));
+    assert!(file("expected.txt").is_empty() && file("actual.txt").is_empty());
+    assert!(file("stderr.txt").is_empty());
+    assert_ne!(file("expected.out.trace"), file("actual.out.trace"));
+}
+
+#[test]
+fn another_refusal_or_line_number_is_found() {
+    let what = found(
+        "another-refusal",
+        "OWN convert \"$@\" | sed 's/! 14$/! 15/'",
+    );
+    assert!(what.contains("! 14\\n\" and is"), "{what}");
+    let what = found(
+        "no-line-number",
+        "OWN convert \"$@\" | sed 's/^[0-9]* !/!/'",
+    );
+    assert!(what.contains("should be \"262144 ! 14"), "{what}");
+}
+
+#[test]
+fn a_refusal_that_touches_the_trace_file_is_found() {
+    let what = found("emptied", "[ $1 = text ] || : >\"$4\"; OWN convert \"$@\"");
+    assert!(what.starts_with("the trace's file should"), "{what}");
+    let script = "[ $1 = text ] || [ -e \"$4\" ] || : >\"$4\"; OWN convert \"$@\"";
+    let what = found("made", script);
+    assert_eq!(what, "the trace's file should not be there");
+    let script = "[ $1 = text ] || rm -f \"$4\"; OWN convert \"$@\"";
+    assert_eq!(found("removed", script), "the trace's file is not there");
+}
+
+#[test]
+fn a_trace_file_that_is_not_made_or_not_cut_is_found() {
+    let script = "[ $1 = text ] && exec OWN convert \"$@\"; OWN convert trace $2 $3 /dev/null";
+    let what = found("not-made", script);
+    assert!(what.starts_with("the trace's file"), "{what}");
+    let script = "[ $1 = text ] && exec OWN convert \"$@\"
+rm -f \"$4.new\"; OWN convert trace $2 $3 \"$4.new\"
+[ ! -e \"$4.new\" ] || dd if=\"$4.new\" of=\"$4\" conv=notrunc 2>/dev/null";
+    let what = found("not-cut", script);
+    assert!(what.contains("bytes and has 5000"), "{what}");
+}
+
+#[test]
+fn wrong_streams_are_found() {
+    let what = found("silent-refusal", "OWN convert \"$@\" 2>/dev/null");
+    assert_eq!(what, "its standard error is empty: missing");
+    let what = found("words", "echo hm >&2; exec OWN convert \"$@\"");
+    assert_eq!(what, "its standard error is not empty: \"hm\"");
+    let twice = "e=$0.$$; OWN convert \"$@\" 2>$e; sed p $e >&2; rm $e";
+    let what = found("words-twice", twice);
+    assert!(
+        what.starts_with("its standard error is not one line"),
+        "{what}"
+    );
+    let what = found("done", "OWN convert \"$@\"; [ $1 = text ] || echo done");
+    assert_eq!(what, "line 1 should be missing and is \"done\\n\"");
+    let what = found("status", "OWN convert \"$@\"; exit 1");
+    assert!(what.contains("exit status: 1"), "{what}");
+}
+
+#[test]
+fn a_converter_that_takes_too_much_is_found() {
+    let changes = [
+        ("carriage-returns", "tr -d '\\r'"),
+        ("last-line", "sed '$a\\'"),
+        ("form-feeds", "tr '\\f' ' '"),
+        ("capital-x", "sed 's/0X/0x/'"),
+        ("cut-at-the-limit", "head -c 262144"),
+    ];
+    for (name, change) in changes {
+        let script = format!(
+            "[ $1 = text ] && exec OWN convert \"$@\"
+cat $3 | {change} | OWN convert trace $2 - \"$4\""
+        );
+        let findings = Bench::new(name).findings(&script, 2500);
+        assert!(findings.difference.is_some(), "{name}");
+    }
+}
+
+#[test]
+fn another_text_is_found() {
+    let otherwise = "[ $1 = trace ] && exec OWN convert \"$@\"; OWN convert \"$@\"";
+    let what = found("capitals", &format!("{otherwise} | sed 's/,0xa/,0xA/'"));
+    assert!(what.contains("and is \"WriteI2C(0x"), "{what}");
+    let what = found("no-wrap", &format!("{otherwise} | sed /0x00,/d"));
+    assert!(what.contains("should be \"WriteI2C(0x00,"), "{what}");
+    let what = found("hub-line", "[ $1 = text ] && echo; exec OWN convert \"$@\"");
+    assert!(what.starts_with("line 1 should be"), "{what}");
+}
+
+#[test]
+fn a_converter_that_takes_too_long_is_ended() {
+    let bench = Bench::new("endless-converter");
+    let mut settings = bench.settings("exec sleep 3", 60);
+    settings.time_limit = Duration::from_millis(300);
+    let difference = compare(&settings).unwrap().difference.unwrap();
+    assert!(difference.what.contains("did not come to an end"));
+}
+
+#[test]
+fn a_converter_that_is_not_there_is_told() {
+    let settings = Settings::new(PathBuf::from("/no/such/convert"), 60);
+    let error = compare(&settings).err().unwrap().to_string();
+    assert!(error.starts_with("cannot run the converter /no/such/convert"));
+}
