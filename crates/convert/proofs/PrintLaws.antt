@@ -7,7 +7,7 @@ use Prim.Native.Nat.{ℕ}
 use Rattle.laws.specs.Reply.{Reply}
 use Rattle.laws.specs.Buffers.{countOf}
 use Rattle.trace.specs.Records.{recordOf}
-use Rattle.script.specs.Calls.{Call}
+use Rattle.calls.specs.Calls.{Call}
 use Rattle.listing.specs.declared.TextAnswer.{TextAnswer}
 use Rattle.listing.specs.Listing.{recordCalls, traceCalls, ifTextRoom, traceText, recordText}
 use Rattle.listing.specs.Answers.{textReply}

@@ -1,5 +1,4 @@
 // A script to a trace: convert trace ADDRESS SCRIPT OUT.
-ghost use Prim.Native.Nat.{_≤_};
 ghost use mathlib.Core.Path.{_≡_};
 ghost use lib.ListN.{length};
 use crate::input;
@@ -18,8 +17,8 @@ fn read_address(word: &[u8]) -> Address {
     if word.len() != 2 {
         return Address::NotTwoDigits;
     }
-    let high = script::digit::value(word[0]);
-    let low = script::digit::value(word[1]);
+    let high = calls::digit::value(word[0]);
+    let low = calls::digit::value(word[1]);
     if 16 <= high {
         return Address::NotTwoDigits;
     }

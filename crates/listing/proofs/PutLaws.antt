@@ -13,7 +13,7 @@ use Rattle.hub.specs.declared.Hub.{Hub}
 use Rattle.hub.specs.Hubs.{creationOf}
 use Rattle.trace.specs.declared.FoundRecord.{FoundRecord}
 use Rattle.trace.specs.Records.{recordOf, valuesOf, foundReply}
-use Rattle.script.specs.Calls.{Call}
+use Rattle.calls.specs.Calls.{Call}
 use Rattle.listing.specs.Listing.{callsText, burstCalls, recordCalls, followedBy, ifTextRoom, recordText}
 use Rattle.listing.proofs.TextLaws.{text-append, length-burst-text}
 use Rattle.listing.proofs.TraceLaws.{impossible}

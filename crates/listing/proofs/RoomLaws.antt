@@ -10,7 +10,7 @@ use lib.Dec.{leb}
 use lib.ListN.{length}
 use Rattle.laws.specs.Reply.{Reply, refused, given, onReply, isRefused}
 use Rattle.laws.specs.Buffers.{ifRoom, afterReply, countOf}
-use Rattle.script.specs.Calls.{Call}
+use Rattle.calls.specs.Calls.{Call}
 use Rattle.listing.specs.declared.TextAnswer.{TextAnswer}
 use Rattle.listing.specs.Listing.{callsText, ifTextRoom}
 use Rattle.listing.specs.Answers.{textReply}

@@ -10,7 +10,7 @@ use lib.Seq.{drop-cons}
 use Rattle.laws.specs.Buffers.{written}
 use Rattle.laws.proofs.Buffers.{written-more}
 use Rattle.registers.specs.RegisterFiles.{nextOffset}
-use Rattle.script.specs.Calls.{Call}
+use Rattle.calls.specs.Calls.{Call}
 use Rattle.listing.specs.Listing.{lowercaseByte, callText, callsText, burstCalls, TextsJoin}
 
 -- each line has 20 bytes

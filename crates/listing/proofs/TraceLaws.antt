@@ -12,7 +12,7 @@ use lib.Seq.{drop-drop}
 use Rattle.laws.specs.Reply.{Reply, refused, given, isRefused}
 use Rattle.trace.specs.Records.{TraceRecord, holdsRecord, recordOf, recordLength}
 use Rattle.trace.proofs.RecordLaws.{holds-whole, record-cut}
-use Rattle.script.specs.Calls.{Call}
+use Rattle.calls.specs.Calls.{Call}
 use Rattle.listing.specs.Listing.{recordCalls, followedBy, laterCalls, traceCalls, ifTextRoom, traceText}
 
 -- no fact is true and false

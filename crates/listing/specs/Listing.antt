@@ -12,7 +12,7 @@ use Rattle.laws.specs.Texts.{ascii}
 use Rattle.registers.specs.RegisterFiles.{nextOffset}
 use Rattle.hub.specs.Hubs.{creationOf}
 use Rattle.trace.specs.Records.{TraceRecord, hubRecord, writeRecord, readRecord, writeQuestion, readQuestion, startRecord, endRecord, lineRecord, recordOf, recordLength}
-use Rattle.script.specs.Calls.{Call}
+use Rattle.calls.specs.Calls.{Call}
 
 -- "text is written as in that example": two hex digits a byte, 0 to 9 (from code 48) and a to f (from code 97)
 unfoldable pub lowercaseDigit : ℕ → ℕ

@@ -17,7 +17,8 @@ use Rattle.trace.specs.Records.{TraceRecord, hubRecord, writeRecord, holdsRecor
 use Rattle.trace.specs.RecordBytes.{recordBytes}
 use Rattle.trace.proofs.KindLaws.{either, later-kind}
 use Rattle.trace.proofs.RecordBytesLaws.{reads-back}
-use Rattle.script.specs.Calls.{Call, writeRecords, traceOf}
+use Rattle.calls.specs.Calls.{Call}
+use Rattle.script.specs.Traces.{writeRecords, traceOf}
 use Rattle.listing.specs.Listing.{burstCalls, recordCalls, followedBy, laterCalls, traceCalls}
 use Rattle.playback.specs.Playing.{playRecord, usedBy, hubFrom}
 use Rattle.playback.proofs.RestLaws.{used-inside, Course, same-course}

@@ -12,7 +12,8 @@ use Rattle.laws.specs.Reply.{Reply, refused, given}
 use Rattle.laws.specs.Buffers.{ifRoom}
 use Rattle.hub.specs.declared.Hub.{Hub}
 use Rattle.hub.specs.Hubs.{hubAt}
-use Rattle.script.specs.Calls.{Call, traceOf}
+use Rattle.calls.specs.Calls.{Call}
+use Rattle.script.specs.Traces.{traceOf}
 use Rattle.script.specs.Reading.{scriptCalls, scriptTrace}
 use Rattle.script.proofs.GrammarLaws.{scripts-taken}
 use Rattle.listing.specs.Listing.{callsText, ifTextRoom, traceCalls, traceText}

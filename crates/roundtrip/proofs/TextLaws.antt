@@ -9,8 +9,9 @@ use borrow.Author.Tests.{eqb-true, not-true}
 use lib.Dec.{eqb}
 use Rattle.laws.specs.Texts.{ascii}
 use Rattle.laws.proofs.Tables.{allBelow, true-below}
-use Rattle.script.specs.Calls.{Call}
-use Rattle.script.specs.Grammar.{Blanks, digitValue, ValueText, twoDigits, called, Script, noLines, moreLines}
+use Rattle.calls.specs.Calls.{Call}
+use Rattle.calls.specs.Grammar.{Blanks, digitValue, ValueText, twoDigits, called}
+use Rattle.script.specs.Grammar.{Script, noLines, moreLines}
 use Rattle.listing.specs.Listing.{lowercaseDigit, lowercaseByte, callText, callsText}
 
 -- every offset and value is a byte

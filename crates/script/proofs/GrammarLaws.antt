@@ -11,14 +11,17 @@ use lib.Dec.{eqb, leb, ltb}
 use lib.ListN.{length, length-append}
 use Rattle.laws.specs.Reply.{Reply, refused, given, isRefused}
 use Rattle.trace.specs.RecordBytes.{recordBytes}
-use Rattle.script.specs.Calls.{Call, writeRecords, traceOf}
-use Rattle.script.specs.Grammar.{ValueText, oneDigit, twoDigits, Line, blank, called, Script, noLines, moreLines}
-use Rattle.script.specs.Reading.{lineRead, partsOf, ScriptReply, refusal, refusalAt, taken, lineReply, restReply, lineThen, isLast, callsFrom, scriptCalls, traceReply, ifHub, scriptTrace}
+use Rattle.calls.specs.Calls.{Call}
+use Rattle.script.specs.Traces.{writeRecords, traceOf}
+use Rattle.calls.specs.Grammar.{ValueText, oneDigit, twoDigits, Line, blank, called}
+use Rattle.script.specs.Grammar.{Script, noLines, moreLines}
+use Rattle.calls.specs.Lines.{lineRead}
+use Rattle.script.specs.Reading.{partsOf, ScriptReply, refusal, refusalAt, taken, lineReply, restReply, lineThen, isLast, callsFrom, scriptCalls, traceReply, ifHub, scriptTrace}
 use Rattle.script.specs.Laws.{ScriptsTaken, Taking, ExactlySuchTexts, OneTrace, TraceIsShort, NoEight}
 use Rattle.hub.specs.declared.Hub.{Hub}
 use Rattle.hub.specs.Hubs.{hubAt, creationOf}
 use Rattle.script.proofs.PartLaws.{Parts, lastPart, nextPart, parts-of, some-part, parts-next, calls-more, calls-next, calls-last}
-use Rattle.script.proofs.LineLaws.{lines-taken}
+use Rattle.calls.proofs.LineLaws.{lines-taken}
 
 -- a line of the grammar gives its calls
 line-given : (line : List ℕ) (here : List Call) → Line line here → length line ≤ 200 → lineReply line ≡ given here

@@ -1,7 +1,4 @@
-pub mod ScanLaws
-pub mod LineReads
 pub mod PartLaws
-pub mod LineLaws
 pub mod GrammarLaws
 pub mod TextReads
 pub mod RecordPuts

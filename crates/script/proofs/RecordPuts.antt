@@ -13,7 +13,8 @@ use Rattle.trace.specs.RecordBytes.{recordBytes}
 use Rattle.laws.specs.Reply.{given}
 use Rattle.laws.specs.Buffers.{written}
 use Rattle.laws.proofs.Buffers.{written-nil, written-more, length-written}
-use Rattle.script.specs.Calls.{Call, writeRecords, traceOf}
+use Rattle.calls.specs.Calls.{Call}
+use Rattle.script.specs.Traces.{writeRecords, traceOf}
 use Rattle.script.specs.Reading.{refusalAt, taken, joinedTo, partsOf, restReply, callsFrom, scriptCalls}
 use Rattle.script.specs.Contracts.{HasCalls, PutsCalls, PutsTrace}
 use Rattle.script.proofs.GrammarLaws.{both-taken, writes-length}

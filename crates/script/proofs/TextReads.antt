@@ -1,22 +1,22 @@
 -- The next line of a text, as the source cuts it off, and the calls that are counted line by line.
 -- Assumes nothing.
 use mathlib.Core.Path.{_≡_, refl, sym, ap, _∙_}
-use mathlib.Core.Bool.{Bool, true, and-eq-true-iff}
+use mathlib.Core.Bool.{Bool, true, and-eq-true-iff, false}
 use mathlib.Core.List.{List, [], _∷_, _++_}
-use mathlib.Core.Option.{Option, none, some}
+use mathlib.Core.Option.{Option, none}
 use Prim.Native.Nat.{ℕ, suc, _+_, _≤_, _<_}
 use native.Mathlib.Nat.{add-zero, add-assoc}
 use native.Mathlib.Numerals.{add-one}
 use native.Mathlib.Omega.{arith}
-use mathlib.Core.Bool.{false}
 use borrow.Author.Tests.{ne-eqb, lt-ltb, le-ltb, ltb-true, ltb-false}
 use lib.Dec.{ltb}
 use lib.ListN.{length, getD, take, drop, length-append, drop-of-length-le}
 use lib.Seq.{take-suc, take-all, split-at, length-take-le, drop-drop}
 use Rattle.laws.specs.Reply.{refused}
-use Rattle.script.specs.Calls.{Call}
-use Rattle.script.specs.Grammar.{all}
-use Rattle.script.specs.Reading.{ScriptReply, refusal, refusalAt, taken, shapeReply, lineRead, lineReply, restReply, joinedTo, lineThen, partsOf, callsFrom, scriptCalls}
+use Rattle.calls.specs.Calls.{Call}
+use Rattle.calls.specs.Grammar.{all}
+use Rattle.script.specs.Reading.{ScriptReply, refusal, refusalAt, taken, shapeReply, lineReply, restReply, joinedTo, lineThen, partsOf, callsFrom, scriptCalls}
+use Rattle.calls.specs.Lines.{lineRead}
 use Rattle.script.specs.Contracts.{FirstLine, countFrom}
 use Rattle.script.proofs.PartLaws.{parts-next, parts-last, calls-next, calls-last}
 

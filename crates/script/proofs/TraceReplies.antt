@@ -1,8 +1,8 @@
 -- What a script is answered, by what counting its calls came to.
 -- Assumes nothing.
-use mathlib.Core.Path.{_≡_, refl, sym, ap, _∙_}
+use mathlib.Core.Path.{_≡_, refl, sym, ap}
 use mathlib.Core.Bool.{Bool, true, false, cond}
-use mathlib.Core.List.{List, [], _∷_}
+use mathlib.Core.List.{List}
 use Prim.Native.Nat.{ℕ, _+_, _*_, _≤_}
 use native.Mathlib.Nat.{zero-add}
 use native.Mathlib.Omega.{arith}
@@ -13,7 +13,8 @@ use Rattle.laws.specs.Reply.{Reply, refused, given}
 use Rattle.hub.specs.declared.Hub.{Hub}
 use Rattle.hub.specs.Hubs.{creationOf}
 use Rattle.trace.specs.RecordBytes.{recordBytes}
-use Rattle.script.specs.Calls.{Call, writeRecords, traceOf}
+use Rattle.calls.specs.Calls.{Call}
+use Rattle.script.specs.Traces.{traceOf}
 use Rattle.script.specs.Reading.{ScriptReply, refusal, refusalAt, taken, traceReply, ifHub, lengthReply, afterScript, scriptCalls, scriptTrace}
 use Rattle.script.specs.Contracts.{countFrom, HasCalls, PutsTrace}
 use Rattle.script.proofs.GrammarLaws.{writes-length}

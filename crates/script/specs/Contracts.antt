@@ -3,36 +3,20 @@
 use mathlib.Core.Path.{_≡_}
 use mathlib.Core.Bool.{true}
 use mathlib.Core.List.{List, [], _∷_}
-use mathlib.Core.Option.{Option, none, some}
+use mathlib.Core.Option.{none, some}
 use Prim.Native.Nat.{ℕ, suc, _+_, _*_, _≤_, _<_}
 use lib.ListN.{length, getD, take, drop}
-use Rattle.script.specs.declared.scan.Scan.{Scan}
-use Rattle.script.specs.declared.scan.Scan.the-variants.{Failed, At}
-use Rattle.script.specs.declared.scan.ValueScan.{ValueScan}
-use Rattle.script.specs.declared.line.LineKind.{LineKind}
-use Rattle.script.specs.declared.line.LineKind.the-variants.{OtherShape, Blank, Call as CallFound}
+use Rattle.calls.specs.declared.LineKind.{LineKind}
+use Rattle.calls.specs.declared.LineKind.the-variants.{OtherShape, Blank, Call as CallFound}
 use Rattle.script.specs.declared.text.NextLine.{NextLine}
 use Rattle.script.specs.declared.text.TextRead.{TextRead}
 use Rattle.laws.specs.Buffers.{written}
-use Rattle.script.specs.Calls.{Call, writeRecords, traceOf}
+use Rattle.calls.specs.Calls.{Call}
+use Rattle.script.specs.Traces.{writeRecords, traceOf}
 use Rattle.script.specs.Grammar.{noLineFeed}
-use Rattle.script.specs.Reading.{ValueAndRest, ScriptReply, refusal, refusalAt, taken, joinedTo, partsOf, callsFrom, scriptCalls}
+use Rattle.script.specs.Reading.{ScriptReply, refusal, refusalAt, taken, joinedTo, partsOf, callsFrom, scriptCalls}
 
--- what stands behind the place of a reading
-abbrev pub restAt : List ℕ → Scan → Option (List ℕ)
-restAt line Failed = none
-restAt line (At place) = some (drop place line)
-
-abbrev pub valueAt : List ℕ → ValueScan → ValueAndRest
-valueAt line scan = record { value = scan .value; rest = restAt line (scan .next) }
-
--- the calls of a line, or that it has another shape
-abbrev pub callsOf : LineKind → Option (List Call)
-callsOf OtherShape = none
-callsOf Blank = some []
-callsOf (CallFound offset value) = some (record { offset = offset; value = value } ∷ [])
-
--- the same, with no calls for another shape
+-- the calls of a line, none where it has another shape
 abbrev pub callsIn : LineKind → List Call
 callsIn OtherShape = []
 callsIn Blank = []

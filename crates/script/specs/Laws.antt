@@ -3,21 +3,16 @@
 use mathlib.Core.Path.{_≡_}
 use mathlib.Core.Bool.{false}
 use mathlib.Core.List.{List}
-use mathlib.Core.Option.{some}
 use Prim.Native.Nat.{ℕ, _+_, _*_, _≤_}
 use lib.ListN.{length}
 use Rattle.laws.specs.Reply.{isRefused}
 use Rattle.hub.specs.Hubs.{creationOf}
-use Rattle.script.specs.Calls.{Call, traceOf}
-use Rattle.script.specs.Grammar.{Line, Script}
-use Rattle.script.specs.Reading.{lineRead, refusal, taken, scriptCalls, scriptTrace}
+use Rattle.calls.specs.Calls.{Call}
+use Rattle.script.specs.Traces.{traceOf}
+use Rattle.script.specs.Grammar.{Script}
+use Rattle.script.specs.Reading.{refusal, taken, scriptCalls, scriptTrace}
 
--- a line is read exactly where it is one of the grammar
-pub record LinesTaken (line : List ℕ) (calls : List Call) : Type 0 where
-  pub every : Line line calls → lineRead line ≡ some calls
-  pub only : lineRead line ≡ some calls → Line line calls
-
--- and a text, with its calls, exactly where it is a script
+-- a text is read, with its calls, exactly where it is a script
 pub record ScriptsTaken (text : List ℕ) (calls : List Call) : Type 0 where
   pub every : Script text calls → scriptCalls text ≡ taken calls
   pub only : scriptCalls text ≡ taken calls → Script text calls

@@ -1,5 +1,5 @@
-pub mod Calls
 pub mod Grammar
+pub mod Traces
 pub mod Reading
 pub mod Laws
 pub mod Contracts

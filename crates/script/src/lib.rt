@@ -5,10 +5,7 @@ ghost use Rattle.script.specs.Reading.{scriptCalls, traceReply, scriptTr
 use hub::CreationAnswer;
 use text::TextRead;
 
-pub mod digit;
-mod line;
 mod records;
-mod scan;
 mod text;
 
 // The length of the trace, or why there is none; `line` is the number of the line that is refused.

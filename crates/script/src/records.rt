@@ -6,11 +6,11 @@ ghost use lib.Dec.{leb};
 ghost use lib.ListN.{length};
 ghost use Rattle.laws.specs.Buffers.{written};
 ghost use Rattle.trace.specs.RecordBytes.{recordBytes};
-ghost use Rattle.script.specs.Calls.{writeRecords, traceOf};
+ghost use Rattle.script.specs.Traces.{writeRecords};
 ghost use Rattle.script.specs.Contracts.{callsIn, PutsCalls, PutsTrace, HasCalls};
-use crate::line::LineKind;
 use crate::text;
 use crate::text::NextLine;
+use calls::LineKind;
 
 // Whether a trace of so many calls has room.
 pub(crate) fn has_trace_room(size: usize, calls: usize) -> bool

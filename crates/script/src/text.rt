@@ -4,8 +4,7 @@ ghost use Prim.Native.Nat.{_≤_, _<_};
 ghost use lib.ListN.{length, drop};
 ghost use Rattle.script.specs.Reading.{scriptCalls};
 ghost use Rattle.script.specs.Contracts.{callsIn, FirstLine, NextLineOf, linesReply, countFrom};
-use crate::line;
-use crate::line::LineKind;
+use calls::LineKind;
 
 // The next line of a text: over 200 bytes, of another shape, or taken, with its length.
 pub(crate) enum NextLine {
@@ -47,7 +46,7 @@ fn first_line(text: &[u8]) -> NextLine
     if text.len() <= length {
         return NextLine::OtherShape;
     }
-    let read = line::read_line(&text[..length]);
+    let read = calls::read_line(&text[..length]);
     match read {
         LineKind::OtherShape => NextLine::OtherShape,
         LineKind::Blank => NextLine::Taken { length, read },

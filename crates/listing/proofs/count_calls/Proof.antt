@@ -11,7 +11,7 @@ use types.Run.{miss}
 use borrow.Author.Needs.{needs}
 use Rattle.laws.specs.Reply.{Reply, given, onReply}
 use Rattle.trace.specs.Records.{recordOf, recordLength}
-use Rattle.script.specs.Calls.{Call}
+use Rattle.calls.specs.Calls.{Call}
 use Rattle.listing.specs.Listing.{recordCalls, traceCalls}
 use Rattle.listing.specs.Contracts.{countReply, countedCalls}
 use Rattle.listing.proofs.TraceLaws.{callsFrom, record-next, all-passed, empty-trace, record-inside}

@@ -1,6 +1,6 @@
 -- `convert::input::read_all` meets its contract. The loop's invariant: what is held is inside the buffer.
 -- Assumes nothing.
-use mathlib.Core.Path.{_≡_, refl, _∙_}
+use mathlib.Core.Path.{_≡_}
 use Prim.Native.Nat.{_-_, _≤_}
 use native.Mathlib.Omega.{arith}
 use lib.ListN.{length}

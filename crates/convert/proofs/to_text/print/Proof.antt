@@ -1,7 +1,6 @@
 -- `convert::to_text::print` meets its contract. The loop's invariant: the places lie inside the trace and the buffer.
 -- Assumes nothing.
-use mathlib.Core.Path.{_≡_, refl, _∙_}
-use native.Mathlib.Omega.{arith}
+use mathlib.Core.Path.{_≡_}
 use lib.ListN.{length}
 use Rattle.convert.specs.Printing.{Inside}
 use borrow.Author.Needs.{needs}

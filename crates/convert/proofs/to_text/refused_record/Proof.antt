@@ -1,7 +1,6 @@
 -- `convert::to_text::refused_record` meets its contract: it keeps inside the trace, and counts no more records than turns.
 -- Assumes nothing.
-use Prim.Native.Nat.{_+_, _^_, _≤_}
-use native.Mathlib.Omega.{arith}
+use Prim.Native.Nat.{_+_, _≤_}
 use lib.ListN.{length}
 use borrow.Author.Needs.{needs}
 use Rattle.convert.proofs.to_text.refused_record.Statement.{statement}

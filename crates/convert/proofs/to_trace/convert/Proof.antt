@@ -1,7 +1,6 @@
 -- `convert::to_trace::convert` meets its contract: the trace ends inside the buffer.
 -- Assumes nothing.
 use mathlib.Core.Path.{sym}
-use Prim.Native.Nat.{_≤_}
 use native.Mathlib.Omega.{arith}
 use lib.ListN.{length}
 use lib.Seq.{length-take-le}

@@ -11,7 +11,7 @@ use borrow.Author.Needs.{needs}
 use Rattle.laws.specs.Reply.{Reply, isRefused}
 use Rattle.laws.specs.Buffers.{afterReply}
 use Rattle.trace.specs.Records.{recordOf, recordLength}
-use Rattle.script.specs.Calls.{Call}
+use Rattle.calls.specs.Calls.{Call}
 use Rattle.listing.specs.Listing.{recordCalls, ifTextRoom, recordText, traceText}
 use Rattle.listing.proofs.TraceLaws.{callsFrom, record-next, record-inside, all-passed, some-bytes}
 use Rattle.listing.proofs.PutLaws.{Fit, both-fit, here-given, here-fits, here-inside, later-fits, both-put, nothing-left}

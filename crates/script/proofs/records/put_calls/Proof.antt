@@ -1,6 +1,6 @@
 -- `script::records::put_calls` meets its contract. The loop's invariant: the records of the lines passed are put.
 -- Assumes nothing.
-use Prim.Native.Nat.{_+_, _-_, _≤_}
+use Prim.Native.Nat.{_-_, _≤_}
 use native.Mathlib.Omega.{arith}
 use borrow.Author.Needs.{needs}
 use lib.ListN.{length, length-drop}

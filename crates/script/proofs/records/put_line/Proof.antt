@@ -1,13 +1,13 @@
 -- `script::records::put_line` meets its contract, by what the line is; the part from the place on is lent, and is back.
 -- Assumes nothing.
 use mathlib.Core.Path.{refl, sym}
-use mathlib.Core.List.{[], _∷_, append-nil}
+use mathlib.Core.List.{[], _∷_}
 use Prim.Native.Nat.{_+_, _≤_}
 use native.Mathlib.Nat.{add-zero}
 use lib.ListN.{length}
 use Rattle.laws.proofs.Buffers.{written-nil, lent-written}
 use Rattle.trace.specs.RecordBytes.{recordBytes}
-use Rattle.script.specs.Calls.{writeRecords}
+use Rattle.script.specs.Traces.{writeRecords}
 use borrow.Author.Needs.{needs}
 use Rattle.script.proofs.records.put_line.Statement.{statement}
 use Rattle.script.proofs.records.put_line.Tie as tie

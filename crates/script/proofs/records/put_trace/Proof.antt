@@ -1,9 +1,5 @@
 -- `script::records::put_trace` meets its contract: the hub record, and behind it the records of the calls.
 -- Assumes nothing.
-use mathlib.Core.Path.{ap, _∙_}
-use mathlib.Core.List.{[], _∷_}
-use Rattle.trace.specs.RecordBytes.{recordBytes}
-use Rattle.laws.proofs.Buffers.{length-written}
 use Rattle.script.proofs.RecordPuts.{has-still, trace-put}
 use borrow.Author.Needs.{needs}
 use Rattle.script.proofs.records.put_trace.Statement.{statement}

@@ -1,9 +1,9 @@
 -- `script::text::count_calls` meets its contract. The loop's invariant: the calls of the lines passed are counted; each line has a byte, its line feed.
 -- Assumes nothing.
-use Prim.Native.Nat.{ℕ, _+_, _-_, _≤_}
+use Prim.Native.Nat.{_+_, _-_, _≤_}
 use native.Mathlib.Omega.{arith}
 use borrow.Author.Needs.{needs}
-use lib.ListN.{length, drop, length-drop}
+use lib.ListN.{length, length-drop}
 use Rattle.script.specs.Contracts.{callsIn}
 use Rattle.script.proofs.TextReads.{Counted, counted-none, counted-refused, counted-more, counted-all}
 use Rattle.script.proofs.text.count_calls.Statement.{statement}

@@ -1,13 +1,12 @@
 -- `script::text::first_line` meets its contract, by the line's length and shape.
 -- Assumes nothing.
-use mathlib.Core.Path.{_≡_, sym, ap, _∙_}
-use mathlib.Core.List.{List}
+use mathlib.Core.Path.{_≡_, sym, _∙_}
 use Prim.Native.Nat.{ℕ, suc, _+_}
 use native.Mathlib.Omega.{arith}
 use lib.ListN.{length, drop}
 use lib.Seq.{length-take-le}
 use Rattle.script.specs.Reading.{shapeReply, lineThen, partsOf, callsFrom}
-use Rattle.script.specs.Contracts.{callsOf}
+use Rattle.calls.specs.Lines.{callsOf}
 use Rattle.script.proofs.TextReads.{too-long, no-line-feed, line-shape}
 use borrow.Author.Needs.{needs}
 use Rattle.script.proofs.text.first_line.Statement.{statement}

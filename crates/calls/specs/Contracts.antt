@@ -1,0 +1,18 @@
+-- How the contracts of the private functions are stated: no rule of the papers.
+-- Assumes nothing.
+use mathlib.Core.List.{List}
+use mathlib.Core.Option.{Option, none, some}
+use Prim.Native.Nat.{ℕ}
+use lib.ListN.{drop}
+use Rattle.calls.specs.declared.scan.Scan.{Scan}
+use Rattle.calls.specs.declared.scan.Scan.the-variants.{Failed, At}
+use Rattle.calls.specs.declared.scan.ValueScan.{ValueScan}
+use Rattle.calls.specs.Lines.{ValueAndRest}
+
+-- what stands behind the place of a reading
+abbrev pub restAt : List ℕ → Scan → Option (List ℕ)
+restAt line Failed = none
+restAt line (At place) = some (drop place line)
+
+abbrev pub valueAt : List ℕ → ValueScan → ValueAndRest
+valueAt line scan = record { value = scan .value; rest = restAt line (scan .next) }

@@ -1,0 +1,4 @@
+pub mod Calls
+pub mod Grammar
+pub mod Lines
+pub mod Contracts
