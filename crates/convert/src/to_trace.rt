@@ -63,6 +63,7 @@ fn convert(address: u8, text: &[u8], trace: &mut [u8], out: &[u8]) {
             say::refusal_at(line as u64, 14);
             show::other_shape(text, line);
         }
+        // Never: the buffer has room for the trace of every text that is taken.
         TraceAnswer::NoRoom => {
             say::refusal(8);
             say::words(b"the trace is too long\n");
