@@ -1,5 +1,6 @@
-//! The worked cases of document 01 and the standard's checksum vectors, answered by this package's
-//! own model and written as the proved program `cases` writes them.
+//! The worked cases of document 01, the data sheet's table of SCL times and the standard's checksum
+//! vectors, answered by this package's own model and written as the proved program `cases` writes
+//! them.
 
 use crate::checksum;
 use crate::frames::{Format, Outcome};
@@ -24,6 +25,7 @@ const SECOND_VECTOR: [u8; 24] = [
 pub fn report() -> String {
     let mut lines = Vec::new();
     registers(&mut lines);
+    scl_times(&mut lines);
     addresses(&mut lines);
     headers(&mut lines);
     payloads(&mut lines);
@@ -46,9 +48,26 @@ fn registers(lines: &mut Vec<String>) {
         let value = hub(&[(offset, 0xFF)]).registers.read(offset);
         lines.push(format!("register {offset:02X} after FF: {value:02X}"));
     }
-    let registers = hub(&[]).registers;
-    let (high, low) = (registers.scl_high_time_ns(), registers.scl_low_time_ns());
-    lines.push(format!("SCL high and low time after reset: {high} {low}"));
+}
+
+/// After reset, then the settings of table 5-14 of 004: Standard, Fast and Fast-mode Plus.
+fn scl_times(lines: &mut Vec<String>) {
+    let times = scl_times_of(&hub(&[]));
+    lines.push(format!("SCL high and low time after reset: {times}"));
+    for (high, low) in [(0x7A, 0x7A), (0x13, 0x25), (0x06, 0x0C)] {
+        let times = scl_times_of(&hub(&[(0x0A, high), (0x0B, low)]));
+        lines.push(format!(
+            "SCL high and low time of {high:02X} and {low:02X}: {times}"
+        ));
+    }
+}
+
+fn scl_times_of(hub: &Hub) -> String {
+    format!(
+        "{} {}",
+        hub.registers.scl_high_time_ns(),
+        hub.registers.scl_low_time_ns()
+    )
 }
 
 fn addresses(lines: &mut Vec<String>) {

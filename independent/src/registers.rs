@@ -150,11 +150,11 @@ impl RegisterFile {
     }
 
     pub fn scl_high_time_ns(&self) -> u32 {
-        40 * (u32::from(self.shared(SCL_HIGH_TIME)) + 5)
+        40 * (u32::from(self.shared(SCL_HIGH_TIME)) + 4)
     }
 
     pub fn scl_low_time_ns(&self) -> u32 {
-        40 * (u32::from(self.shared(SCL_LOW_TIME)) + 5)
+        40 * (u32::from(self.shared(SCL_LOW_TIME)) + 4)
     }
 }
 

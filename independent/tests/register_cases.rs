@@ -91,8 +91,22 @@ fn a_burst_wraps_and_obeys_a_selection_it_changes() {
 }
 
 #[test]
-fn scl_times_are_forty_times_n_plus_five() {
-    assert_eq!(RegisterFile::after_reset().scl_high_time_ns(), 5040);
-    assert_eq!(written(&[(0x0B, 0x00)]).scl_low_time_ns(), 200);
-    assert_eq!(written(&[(0x0B, 0xFF)]).scl_low_time_ns(), 10_400);
+fn scl_times_are_forty_times_n_plus_four() {
+    assert_eq!(RegisterFile::after_reset().scl_high_time_ns(), 5000);
+    assert_eq!(RegisterFile::after_reset().scl_low_time_ns(), 5000);
+    assert_eq!(written(&[(0x0B, 0x00)]).scl_low_time_ns(), 160);
+    assert_eq!(written(&[(0x0B, 0xFF)]).scl_low_time_ns(), 10_360);
+}
+
+/// Table 5-14 of 004: Standard, Fast and Fast-mode Plus.
+#[test]
+fn scl_times_of_the_data_sheets_table() {
+    for (high, low, times) in [
+        (0x7A, 0x7A, (5040, 5040)),
+        (0x13, 0x25, (920, 1640)),
+        (0x06, 0x0C, (400, 640)),
+    ] {
+        let file = written(&[(0x0A, high), (0x0B, low)]);
+        assert_eq!((file.scl_high_time_ns(), file.scl_low_time_ns()), times);
+    }
 }

@@ -1,4 +1,4 @@
-// Runs the worked cases of document 01 and prints what the model answers, one line a case.
+// Runs the worked cases of document 01, and the data sheet's table of SCL times, and prints what the model answers, one line a case.
 mod frame_cases;
 mod packet_cases;
 mod print;

@@ -104,18 +104,37 @@ fn print_after_ff(offset: u8) {
     print::end_line();
 }
 
-fn print_scl(file: registers::RegisterFile) {
-    print::text(b"SCL high and low time after reset:");
+fn print_scl_times(file: registers::RegisterFile) {
     print::decimal(registers::scl::high_time(file) as u64);
     print::decimal(registers::scl::low_time(file) as u64);
     print::end_line();
+}
+
+// The SCL times after `high` was written to SCL_HIGH_TIME and `low` to SCL_LOW_TIME.
+fn print_scl_setting(high: u8, low: u8) {
+    print::text(b"SCL high and low time of ");
+    print::byte(high);
+    print::text(b" and ");
+    print::byte(low);
+    print::text(b":");
+    let written = registers::write(registers::reset(), 0x0A, high);
+    print_scl_times(registers::write(written, 0x0B, low));
+}
+
+// After reset, then the three settings of the data sheet's table 5-14.
+fn print_scl_cases() {
+    print::text(b"SCL high and low time after reset:");
+    print_scl_times(registers::reset());
+    print_scl_setting(0x7A, 0x7A);
+    print_scl_setting(0x13, 0x25);
+    print_scl_setting(0x06, 0x0C);
 }
 
 pub fn run() {
     print_after_ff(0x1F);
     print_after_ff(0xB6);
     print_after_ff(0x4C);
-    print_scl(registers::reset());
+    print_scl_cases();
     let all = broadcast(0x0F);
     print::text(b"broadcast, write to 30:");
     print_write(hub::translation::who_hears_write(all, 0x30));

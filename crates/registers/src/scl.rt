@@ -10,7 +10,7 @@ use crate::map;
 fn time(n: u8) -> u32
     ensures { λ r. ⌜ r ≡ sclTime n ⌝ }
 {
-    40 * ((n as u32) + 5)
+    40 * ((n as u32) + 4)
 }
 
 // The SCL high time in nanoseconds.
