@@ -1,4 +1,4 @@
--- How a line is read: its tokens from the start to the end (L1), and the law that exactly the lines of the grammar are.
+-- How a line is read: its tokens from the start to the end (L1), and the law that exactly the lines of the grammar are read.
 -- Assumes nothing.
 use mathlib.Core.Path.{_≡_}
 use mathlib.Core.Bool.{cond}

@@ -28,7 +28,7 @@ fn read_address(word: &[u8]) -> Address {
     Address::Given(16 * high + low)
 }
 
-// Behind its hub record a trace has at most a third of the text's bytes (`NoEight`): a text of 262,144 bytes makes none that is longer than this.
+// Behind its hub record a trace has at most a third of the text's bytes (`TraceIsShort`, so `NoEight`): a text of 262,144 bytes makes none that is longer than this.
 fn trace_buffer() -> [u8; 87387]
     ensures { λ r. ⌜ 87387 ≡ length r ⌝ }
 {

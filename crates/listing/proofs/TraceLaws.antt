@@ -13,7 +13,7 @@ use Rattle.laws.specs.Reply.{Reply, refused, given, isRefused}
 use Rattle.trace.specs.Records.{TraceRecord, holdsRecord, recordOf, recordLength}
 use Rattle.trace.proofs.RecordLaws.{holds-whole, record-cut}
 use Rattle.calls.specs.Calls.{Call}
-use Rattle.listing.specs.Listing.{recordCalls, followedBy, laterCalls, traceCalls, ifTextRoom, traceText}
+use Rattle.listing.specs.Listing.{recordCalls, followedBy, laterCalls, traceCalls, leftCalls, RecordsJoin, ifTextRoom, traceText}
 
 -- no fact is true and false
 pub impossible : {A : Type 0} → true ≡ false → A
@@ -41,14 +41,8 @@ enough-calls (suc n) (suc m) bytes h k = go (eqb (length bytes) 0) refl (enough-
         let less = length-drop (recordLength bytes) bytes in
         ap (followedBy here) (ih (omega arith) (omega arith))
 
--- the calls of what is left of a trace, `first` where nothing of it was passed
-abbrev pub leftCalls : Bool → List ℕ → Reply (List Call)
-leftCalls true left = traceCalls left
-leftCalls false left = laterCalls (length left) left
-
--- they are those of the next record and of what is left behind it
-next-record : (first : Bool) (left : List ℕ) → 1 ≤ length left
-    → leftCalls first left ≡ followedBy (recordCalls (recordOf first left)) (leftCalls false (drop (recordLength left) left))
+-- the calls of what is left are those of the next record and of what is left behind it
+pub next-record : RecordsJoin
 unfolding traceCalls laterCalls
 next-record true left h =
     let rest = drop (recordLength left) left in

@@ -3,7 +3,7 @@
 use mathlib.Core.Path.{_≡_}
 use mathlib.Core.Bool.{Bool, true, false, cond}
 use mathlib.Core.List.{List, [], _∷_, _++_}
-use Prim.Native.Nat.{ℕ, zero, suc, _+_, _/_, _%_}
+use Prim.Native.Nat.{ℕ, zero, suc, _+_, _/_, _%_, _≤_}
 use lib.Dec.{eqb, ltb}
 use lib.ListN.{length, drop}
 use Rattle.laws.specs.Reply.{Reply, refused, given, onReply}
@@ -64,12 +64,23 @@ laterCalls (suc n) bytes =
 unfoldable pub traceCalls : List ℕ → Reply (List Call)
 traceCalls trace = followedBy (recordCalls (recordOf true trace)) (laterCalls (length trace) (drop (recordLength trace) trace))
 
+-- the calls of what is left of a trace, `first` where nothing of it was passed
+abbrev pub leftCalls : Bool → List ℕ → Reply (List Call)
+leftCalls true left = traceCalls left
+leftCalls false left = laterCalls (length left) left
+
+-- A law: they are those of the next record, and then those of what is left behind it.
+abbrev pub RecordsJoin : Type 0
+RecordsJoin =
+    (first : Bool) (left : List ℕ) → 1 ≤ length left
+    → leftCalls first left ≡ followedBy (recordCalls (recordOf first left)) (leftCalls false (drop (recordLength left) left))
+
 -- the text of calls in a buffer of that size, from the place on; "8 last"
 abbrev pub ifTextRoom : ℕ → ℕ → Reply (List Call) → Reply (List ℕ)
 ifTextRoom size place (refused number) = refused number
 ifTextRoom size place (given calls) = ifRoom size place (callsText calls)
 
--- A law: the texts of some calls, one behind the other, are the text of them all; so the text of a trace may be made record by record.
+-- A law: the texts of some calls, one behind the other, are the text of them all; so by `RecordsJoin` the text of a trace may be made record by record.
 abbrev pub TextsJoin : Type 0
 TextsJoin = (here later : List Call) → callsText (here ++ later) ≡ callsText here ++ callsText later
 

@@ -15,7 +15,7 @@ use Rattle.playback.specs.Playing.{endHub}
 abbrev pub AreBytes : List ℕ → Type 0
 AreBytes file = (i : ℕ) → getD file i 0 < 256
 
--- The text is read again with an address, whatever the room where its trace fits, and what it makes plays to the same end.
+-- The text is read again with an address, into any buffer that has room for its trace, and what it makes plays to the same end.
 pub record PlaysAlike (address : ℕ) (trace text : List ℕ) : Type 0 where
   pub again : List ℕ
   pub read : (room : ℕ) → length again ≤ room → scriptTrace address text room ≡ taken again

@@ -25,13 +25,14 @@ pub record Taking (address : ℕ) (text : List ℕ) (size : ℕ) (trace : List �
   pub created : isRefused (creationOf address) ≡ false
   pub room : length trace ≤ size
 
-pub record TracesTaken (address : ℕ) (text : List ℕ) (size : ℕ) (trace : List ℕ) : Type 0 where
+-- a text is taken, with its trace, exactly where it is such
+pub record TextTaken (address : ℕ) (text : List ℕ) (size : ℕ) (trace : List ℕ) : Type 0 where
   pub every : Taking address text size trace → scriptTrace address text size ≡ taken trace
   pub only : scriptTrace address text size ≡ taken trace → Taking address text size trace
 
--- "Exactly such texts are taken": what `script::to_trace` promises of every text, address and buffer
+-- "Exactly such texts are taken", of every text, address and size of the buffer: over `scriptTrace`, which the contract of `script::to_trace` cites
 abbrev pub ExactlySuchTexts : Type 0
-ExactlySuchTexts = (address : ℕ) (text : List ℕ) (size : ℕ) (trace : List ℕ) → TracesTaken address text size trace
+ExactlySuchTexts = (address : ℕ) (text : List ℕ) (size : ℕ) (trace : List ℕ) → TextTaken address text size trace
 
 -- "and each has one trace": it has one list of calls, from which `traceOf` makes the trace
 abbrev pub OneTrace : Type 0

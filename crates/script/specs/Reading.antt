@@ -15,11 +15,12 @@ use Rattle.calls.specs.Calls.{Call}
 use Rattle.script.specs.Traces.{traceOf}
 use Rattle.calls.specs.Lines.{lineRead}
 
--- the parts of a text between its line feeds: the lines, and last what stands behind the last line feed
+-- one more byte before the first part
 unfoldable pub withByte : ℕ → List (List ℕ) → List (List ℕ)
 withByte byte [] = (byte ∷ []) ∷ []
 withByte byte (part ∷ parts) = (byte ∷ part) ∷ parts
 
+-- the parts of a text between its line feeds: the lines, and last what stands behind the last line feed
 unfoldable pub partsOf : List ℕ → List (List ℕ)
 partsOf [] = [] ∷ []
 partsOf (byte ∷ bytes) = cond (eqb byte 10) ([] ∷ partsOf bytes) (withByte byte (partsOf bytes))
@@ -30,16 +31,17 @@ pub data ScriptReply (A : Type 0) : Type 0 where
   refusalAt : (number line : ℕ) → ScriptReply A
   taken : A → ScriptReply A
 
--- "by line 15, over 200 bytes, before 14, another shape, each with the line's number"
+-- "14, another shape"
 abbrev pub shapeReply : Option (List Call) → Reply (List Call)
 shapeReply none = refused 14
 shapeReply (some calls) = given calls
 
+-- "by line 15, over 200 bytes, before 14, another shape, each with the line's number"
 unfoldable pub lineReply : List ℕ → Reply (List Call)
 lineReply line = cond (ltb 200 (length line)) (refused 15) (shapeReply (lineRead line))
 
--- "Each line ends in one line feed": behind the last one stands nothing, or a line that has none, which is of another shape (ours), and 15 where it is over 200
--- bytes
+-- "Each line ends in one line feed": what stands behind the last line feed is nothing, or a line without one; that is 15 where it is over 200 bytes, otherwise
+-- 14 (ours)
 unfoldable pub restReply : ℕ → List ℕ → ScriptReply (List Call)
 restReply number rest = cond (eqb (length rest) 0) (taken []) (refusalAt (cond (ltb 200 (length rest)) 15 14) number)
 
