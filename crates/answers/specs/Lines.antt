@@ -6,10 +6,10 @@ use lib.ListN.{take}
 use Rattle.laws.specs.Reply.{Reply, refused, given, onReply}
 use Rattle.hub.specs.declared.CreationAnswer.{CreationAnswer}
 use Rattle.hub.specs.declared.CreationAnswer.the-variants.{AddressOutOfRange, Created}
-use Rattle.hub.specs.declared.translation.Remote.{Remote}
-use Rattle.hub.specs.declared.translation.Remote.the-variants.{Serializer, Target}
-use Rattle.hub.specs.declared.translation.PortDevice.{PortDevice}
-use Rattle.hub.specs.Translation.{Addressed, theHub, nobody, found, writeReply, readReply}
+use Rattle.translation.specs.declared.Remote.{Remote}
+use Rattle.translation.specs.declared.Remote.the-variants.{Serializer, Target}
+use Rattle.translation.specs.declared.PortDevice.{PortDevice}
+use Rattle.translation.specs.Translation.{Addressed, theHub, nobody, found, writeReply, readReply}
 use Rattle.frames.specs.Events.{Outcome, eventDropped, eventSent, Told, wasDropped, wasSent, startAnswerReply, lineAnswerReply, endAnswerReply}
 use Rattle.answers.specs.declared.event.Header.{Header}
 use Rattle.answers.specs.declared.event.EventAnswer.{EventAnswer}

@@ -7,8 +7,8 @@ use frames::end::EndAnswer;
 use frames::line::LineAnswer;
 use frames::start::StartAnswer;
 use hub::CreationAnswer;
-use hub::translation::ReadAnswer;
-use hub::translation::WriteAnswer;
+use translation::ReadAnswer;
+use translation::WriteAnswer;
 
 pub mod event;
 mod refused;

@@ -1,12 +1,12 @@
 // Whether an answer is a refusal.
 ghost use mathlib.Core.Path.{_≡_};
 ghost use Rattle.laws.specs.Reply.{isRefused};
-ghost use Rattle.hub.specs.Translation.{writeReply, readReply};
+ghost use Rattle.translation.specs.Translation.{writeReply, readReply};
 ghost use Rattle.answers.specs.Lines.{hubLine, eventAnswerReply};
 use crate::event::EventAnswer;
 use hub::CreationAnswer;
-use hub::translation::ReadAnswer;
-use hub::translation::WriteAnswer;
+use translation::ReadAnswer;
+use translation::WriteAnswer;
 
 pub(crate) fn write_refused(answer: WriteAnswer) -> bool
     ensures { λ r. ⌜ r ≡ isRefused (writeReply answer) ⌝ }

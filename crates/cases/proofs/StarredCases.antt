@@ -10,7 +10,7 @@ use Rattle.hub.specs.Hubs.{hubAt, hubBurst, hubRead}
 use Rattle.ecc.specs.CheckBytes.{onesAmong, checkByte}
 use Rattle.ecc.specs.HeaderCorrection.{isRight, correctFrom, correctionOf}
 use Rattle.csi2.specs.Raw.{packGroup, packGroups, payloadOf}
-use Rattle.csi2.specs.Reader.{readBody, readPacket}
+use Rattle.reader.specs.Reader.{readBody, readPacket}
 use Rattle.cases.specs.StarredCases.{StarredCases}
 
 pub starred-cases : StarredCases

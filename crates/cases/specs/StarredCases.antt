@@ -10,7 +10,7 @@ use Rattle.hub.specs.Hubs.{hubAt, hubBurst, hubRead}
 use Rattle.ecc.specs.declared.Corrected.the-variants.{HeaderBit}
 use Rattle.ecc.specs.CheckBytes.{checkByte}
 use Rattle.csi2.specs.Raw.{payloadOf}
-use Rattle.csi2.specs.Reader.{readPacket}
+use Rattle.reader.specs.Reader.{readPacket}
 
 -- a hub after reset
 abbrev reset : Hub

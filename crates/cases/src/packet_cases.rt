@@ -4,10 +4,9 @@ use csi2::line;
 use csi2::line::LineAnswer;
 use csi2::raw;
 use csi2::raw::PackAnswer;
-use csi2::reader;
-use csi2::reader::PacketRead;
 use ecc::Corrected;
 use formats::Format;
+use reader::PacketRead;
 
 // The standard's two checksum vectors.
 const FIRST_VECTOR: [u8; 24] = [

@@ -2,11 +2,11 @@
 use crate::print;
 use hub::CreationAnswer;
 use hub::Hub;
-use hub::translation::Devices;
-use hub::translation::PortDevice;
-use hub::translation::ReadAnswer;
-use hub::translation::Remote;
-use hub::translation::WriteAnswer;
+use translation::Devices;
+use translation::PortDevice;
+use translation::ReadAnswer;
+use translation::Remote;
+use translation::WriteAnswer;
 
 // The hub 0x3D at reset. (A refused address is said, and the case goes on with the hub that stands beside the refusal.)
 pub fn start() -> Hub {
@@ -137,12 +137,12 @@ pub fn run() {
     print_scl_cases();
     let all = broadcast(0x0F);
     print::text(b"broadcast, write to 30:");
-    print_write(hub::translation::who_hears_write(all, 0x30));
+    print_write(translation::who_hears_write(all, 0x30));
     print::text(b"broadcast, read of 30:");
-    print_read(hub::translation::who_answers_read(all, 0x30));
+    print_read(translation::who_answers_read(all, 0x30));
     let two = broadcast(0x23);
     print::text(b"ports 0 and 1, read port 2, write to 30:");
-    print_write(hub::translation::who_hears_write(two, 0x30));
+    print_write(translation::who_hears_write(two, 0x30));
     print::text(b"ports 0 and 1, read port 2, read of 30:");
-    print_read(hub::translation::who_answers_read(two, 0x30));
+    print_read(translation::who_answers_read(two, 0x30));
 }

@@ -1,7 +1,6 @@
-// CSI-2 packets: written into a lent buffer from a given place, and read back.
+// CSI-2 packets, written into a lent buffer from a given place.
 mod header;
 pub mod line;
 pub mod raw;
-pub mod reader;
 mod room;
 pub mod short;

@@ -5,7 +5,7 @@ use Rattle.laws.specs.Reply.{Reply, refused, given}
 use Rattle.ecc.specs.declared.Corrected.{Corrected}
 use Rattle.ecc.specs.declared.Corrected.the-variants.{Nothing, HeaderBit}
 use Rattle.ecc.specs.HeaderCorrection.{ReadHeader}
-use Rattle.csi2.specs.Reader.{Packet}
+use Rattle.reader.specs.Reader.{Packet}
 
 abbrev pub replyNumber : Reply ℕ → ℕ
 replyNumber (refused number) = number * 2 ^ 56

@@ -1,4 +1,4 @@
-// Functions of `ecc`, `crc` and `csi2` for programs in C and Rust. An answer that may be a refusal is one number (specs/Numbers.antt).
+// Functions of `ecc`, `crc`, `csi2` and `reader` for programs in C and Rust. An answer that may be a refusal is one number (specs/Numbers.antt).
 // A slice is passed as its address and its length. The caller answers for both, and that no other slice overlaps a `&mut` one.
 ghost use mathlib.Core.Path.{_≡_};
 ghost use lib.ListN.{length};
@@ -9,11 +9,10 @@ ghost use Rattle.ecc.specs.CheckBytes.{checkByte};
 ghost use Rattle.ecc.specs.HeaderCorrection.{correctionOf};
 ghost use Rattle.crc.specs.Checksum.{crcFrom, crcOf};
 ghost use Rattle.csi2.specs.Writers.{packLineReply, lineReply};
-ghost use Rattle.csi2.specs.Reader.{readPacket, payloadRead};
+ghost use Rattle.reader.specs.Reader.{readPacket, payloadRead};
 ghost use Rattle.exports.specs.Numbers.{replyNumber, correctionNumber, packetNumber};
 use csi2::line;
 use csi2::raw;
-use csi2::reader;
 use formats::Format;
 
 mod numbers;

@@ -1,3 +1,2 @@
 pub mod Hubs
 pub mod Routes
-pub mod TranslationLaws

@@ -1,4 +1,2 @@
 pub mod Hubs
 pub mod Routes
-pub mod Translation
-pub mod Collecting

@@ -5,7 +5,6 @@ use formats::Format;
 use registers::RegisterFile;
 
 pub mod forwarding;
-pub mod translation;
 
 // A port's last frame: none so far, or its format and number, and whether it is closed or open.
 pub enum LastFrame {

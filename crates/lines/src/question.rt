@@ -3,17 +3,17 @@ ghost use mathlib.Core.List.{_++_};
 ghost use Prim.Native.Nat.{_+_, _≤_};
 ghost use lib.ListN.{length};
 ghost use Rattle.laws.specs.Reply.{onReply};
-ghost use Rattle.hub.specs.Translation.{devicesOf, writeReply, readReply};
+ghost use Rattle.translation.specs.Translation.{devicesOf, writeReply, readReply};
 ghost use Rattle.answers.specs.Texts.{ascii, hexByte};
 ghost use Rattle.answers.specs.Lines.{remoteText, deviceText, devicesText, writeQuestionFields, readQuestionFields, fieldsText};
 ghost use Rattle.lines.specs.Putting.{Put};
 use crate::refusal;
 use crate::text;
-use hub::translation::Devices;
-use hub::translation::PortDevice;
-use hub::translation::ReadAnswer;
-use hub::translation::Remote;
-use hub::translation::WriteAnswer;
+use translation::Devices;
+use translation::PortDevice;
+use translation::ReadAnswer;
+use translation::Remote;
+use translation::WriteAnswer;
 
 fn put_remote(out: &mut [u8], at: usize, remote: Remote) -> usize
     requires { ⌜ at + 3 ≤ length (now out) ⌝ }

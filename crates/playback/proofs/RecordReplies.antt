@@ -10,11 +10,11 @@ use lib.ListN.{length, take, drop, replicate, length-append, length-take}
 use Rattle.laws.specs.Reply.{Reply, refused, given, onReply}
 use Rattle.registers.specs.RegisterFiles.{readPort}
 use Rattle.hub.specs.declared.Hub.{Hub}
-use Rattle.hub.specs.declared.translation.PortDevice.{PortDevice}
-use Rattle.hub.specs.declared.translation.PortAnswer.{PortAnswer}
-use Rattle.hub.specs.declared.translation.PortAnswer.the-variants.{NoMatch, Device}
+use Rattle.translation.specs.declared.PortDevice.{PortDevice}
+use Rattle.translation.specs.declared.PortAnswer.{PortAnswer}
+use Rattle.translation.specs.declared.PortAnswer.the-variants.{NoMatch, Device}
 use Rattle.hub.specs.Hubs.{hubAt, creationOf, hubRead}
-use Rattle.hub.specs.Translation.{onPort, onPorts, matching, theHub, nobody, found, reached, answered, whoHearsWrite, whoAnswersRead}
+use Rattle.translation.specs.Translation.{onPort, onPorts, matching, theHub, nobody, found, reached, answered, whoHearsWrite, whoAnswersRead}
 use Rattle.frames.specs.Events.{Outcome, eventDropped, eventSent}
 use Rattle.trace.specs.Records.{TraceRecord, hubRecord, writeRecord, readRecord, writeQuestion, readQuestion, startRecord, endRecord, lineRecord}
 use Rattle.trace.specs.Records.{kindRecord, kindOf, dataOf, hasMark, holdsRecord, recordOf}

@@ -11,11 +11,11 @@ use lib.ListN.{length, length-append}
 use Rattle.laws.specs.Bits.{bit}
 use Rattle.registers.specs.RegisterMap.{BCC-CONFIG, SER-ID, SER-ALIAS-ID, TARGET-ALIAS-0}
 use Rattle.registers.specs.RegisterFiles.{pageAt}
-use Rattle.hub.specs.declared.translation.Remote.{Remote}
-use Rattle.hub.specs.declared.translation.Remote.the-variants.{Serializer, Target}
-use Rattle.hub.specs.declared.translation.PortAnswer.{PortAnswer}
-use Rattle.hub.specs.declared.translation.PortAnswer.the-variants.{NoMatch, Device}
-use Rattle.hub.specs.Translation.{address7, isAlias, targetFrom, onPort, onPorts, matching}
+use Rattle.translation.specs.declared.Remote.{Remote}
+use Rattle.translation.specs.declared.Remote.the-variants.{Serializer, Target}
+use Rattle.translation.specs.declared.PortAnswer.{PortAnswer}
+use Rattle.translation.specs.declared.PortAnswer.the-variants.{NoMatch, Device}
+use Rattle.translation.specs.Translation.{address7, isAlias, targetFrom, onPort, onPorts, matching}
 use Rattle.answers.specs.Texts.{ascii, hexByte, hexBytes, decimalFrom, decimal}
 use Rattle.answers.specs.Lines.{remoteText, deviceText, devicesText}
 

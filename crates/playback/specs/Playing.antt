@@ -8,7 +8,7 @@ use lib.ListN.{length, drop, replicate}
 use Rattle.laws.specs.Reply.{Reply, refused, given, onReply, isRefused}
 use Rattle.hub.specs.declared.Hub.{Hub}
 use Rattle.hub.specs.Hubs.{hubAt, creationOf, hubBurst, hubRead}
-use Rattle.hub.specs.Translation.{whoHearsWrite, whoAnswersRead}
+use Rattle.translation.specs.Translation.{whoHearsWrite, whoAnswersRead}
 use Rattle.frames.specs.Events.{Event, startEvent, lineEvent, endEvent, eventReply, hubAfter, bufferAfter}
 use Rattle.trace.specs.Records.{TraceRecord, hubRecord, writeRecord, readRecord, writeQuestion, readQuestion, startRecord, endRecord, lineRecord, recordLength, recordOf}
 use Rattle.answers.specs.Texts.{ascii}

@@ -10,7 +10,6 @@ use crate::event;
 use answers::RecordAnswer;
 use hub::CreationAnswer;
 use hub::Hub;
-use hub::translation;
 use trace::FoundRecord;
 
 // The hub after a record, what the record was answered, and whether it ends the run.

@@ -12,7 +12,7 @@ use Rattle.registers.specs.RegisterFiles.{pageAt}
 use Rattle.hub.specs.declared.Hub.{Hub}
 use Rattle.hub.specs.Hubs.{ArrayLengths}
 use Rattle.hub.specs.Routes.{routeOf}
-use Rattle.hub.specs.Translation.{whoHearsWrite}
+use Rattle.translation.specs.Translation.{whoHearsWrite}
 use Rattle.setup.specs.SetupBlocks.{Block, blockBytes, later, runBlocks, SetupBlocks}
 use Rattle.setup.specs.Demand3.{SameShared, Alike, EndsAs, Demand3}
 use Rattle.setup.proofs.Runs.{afterBytes, afterBlocks, after-block, after-blocks}

@@ -6,7 +6,7 @@
 -- has the writable bits of what the last block wrote there and its other bits as before, or is as it was if there is no block; a ticked port is as its own
 -- block alone leaves it from the same start; a port ticked by no block, the frame state, every other shared register and the own address are as they were.
 --
--- It is about the code that runs: `hub::burst`, `hub::forwarding::route_of` and `hub::translation::who_hears_write` ensure equations with `hubBurst`, `routeOf`
+-- It is about the code that runs: `hub::burst`, `hub::forwarding::route_of` and `translation::who_hears_write` ensure equations with `hubBurst`, `routeOf`
 -- and `whoHearsWrite`, which are the definitions here. And about every start: `ArrayLengths` holds of every value of the type Hub, as `hub::array_lengths` ensures.
 -- Assumes nothing.
 use mathlib.Core.Path.{_≡_}
@@ -20,7 +20,7 @@ use Rattle.registers.specs.RegisterFiles.{sharedAt, pageAt, selection}
 use Rattle.hub.specs.declared.Hub.{Hub}
 use Rattle.hub.specs.Hubs.{ArrayLengths, firstFrames}
 use Rattle.hub.specs.Routes.{routeOf}
-use Rattle.hub.specs.Translation.{whoHearsWrite}
+use Rattle.translation.specs.Translation.{whoHearsWrite}
 use Rattle.setup.specs.SetupBlocks.{Block, runBlock, runBlocks, selectionWritten, ticks, SetupBlocks}
 
 -- every shared register but the selection is in both hubs the same

@@ -2,7 +2,7 @@
 -- Assumes nothing.
 use mathlib.Core.Path.{_≡_, refl, sym, ap, _∙_}
 use Rattle.laws.specs.Reply.{Reply, refused, given, isRefused, onReply}
-use Rattle.hub.specs.Translation.{writeReply, readReply}
+use Rattle.translation.specs.Translation.{writeReply, readReply}
 use Rattle.frames.specs.Events.{startAnswerReply, lineAnswerReply, endAnswerReply}
 use Rattle.answers.specs.Texts.{ascii}
 use Rattle.answers.specs.Lines.{writeQuestionFields, readQuestionFields, headerList, toldFields, answerReply}

@@ -1,4 +1,4 @@
--- `exports::loopcinder_payload_length` meets its contract: the length of the part that `csi2` hands back.
+-- `exports::loopcinder_payload_length` meets its contract: the length of the part that `reader` hands back.
 -- Assumes nothing.
 use mathlib.Core.Path.{ap}
 use lib.ListN.{length}

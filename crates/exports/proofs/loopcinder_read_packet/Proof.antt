@@ -1,4 +1,4 @@
--- `exports::loopcinder_read_packet` meets its contract: the number of what `csi2` answers.
+-- `exports::loopcinder_read_packet` meets its contract: the number of what `reader` answers.
 -- Assumes nothing.
 use borrow.Author.Needs.{needs}
 use Rattle.exports.proofs.loopcinder_read_packet.Statement.{statement}

@@ -1,0 +1,53 @@
+-- What is written is read back: laws that stand beside the contracts of the writers and of the reader.
+-- Assumes nothing.
+use mathlib.Core.Path.{_≡_}
+use mathlib.Core.Bool.{Bool}
+use mathlib.Core.List.{List, []}
+use Prim.Native.Nat.{ℕ, _/_, _%_, _^_, _<_}
+use lib.Bits.{bitXor}
+use lib.ListN.{length, getD, set, drop}
+use Rattle.laws.specs.Reply.{given}
+use Rattle.laws.specs.Buffers.{written}
+use Rattle.formats.specs.declared.Format.{Format}
+use Rattle.ecc.specs.declared.Corrected.{Corrected}
+use Rattle.ecc.specs.declared.Corrected.the-variants.{Nothing, HeaderBit}
+use Rattle.csi2.specs.declared.short.FrameSync.{FrameSync}
+use Rattle.csi2.specs.Raw.{payloadOf}
+use Rattle.csi2.specs.Packets.{syncIdentifier}
+use Rattle.csi2.specs.Writers.{lineReply, lineSent, forwardReply, shortReply}
+use Rattle.reader.specs.Reader.{readPacket, payloadRead}
+
+-- the reader's answers about the packet at the start of the bytes
+abbrev pub ReadsWith : Corrected → List ℕ → ℕ → ℕ → List ℕ → Type 0
+ReadsWith corrected bytes identifier count payload =
+    (readPacket bytes ≡ given (record { dataIdentifier = identifier; wordCount = count; corrected = corrected })) × (payloadRead bytes ≡ payload)
+
+-- the bytes with bit i flipped, the lowest of the first byte being bit 0
+abbrev pub flippedIn : List ℕ → ℕ → List ℕ
+flippedIn bytes i = set bytes (i / 8) (bitXor (getD bytes (i / 8) 0) (2 ^ (i % 8)))
+
+-- read with nothing corrected; and with any one of the 32 bits of the header flipped all the same, naming that bit
+abbrev pub ReadsAs : List ℕ → ℕ → ℕ → List ℕ → Type 0
+ReadsAs bytes identifier count payload =
+    ReadsWith Nothing bytes identifier count payload × ((i : ℕ) → i < 32 → ReadsWith (HeaderBit i) (flippedIn bytes i) identifier count payload)
+
+-- for every line that the writer accepts, read from its place
+abbrev pub LineReadsBack : Type 0
+LineReadsBack =
+    (format : Format) (pixels : List ℕ) (identifier place : ℕ) (buffer bytes : List ℕ) → identifier < 256
+    → lineReply format pixels identifier (length buffer) place ≡ given bytes
+    → ReadsAs (drop place (written buffer place bytes)) identifier (length (payloadOf format pixels)) (payloadOf format pixels)
+
+-- the same for a line that may have to be dropped, and is sent
+abbrev pub ForwardedReadsBack : Type 0
+ForwardedReadsBack =
+    (format : Format) (pixels : List ℕ) (forwarded : Bool) (identifier place : ℕ) (buffer bytes : List ℕ) → identifier < 256
+    → forwardReply format pixels forwarded identifier (length buffer) place ≡ given (lineSent bytes)
+    → ReadsAs (drop place (written buffer place bytes)) identifier (length (payloadOf format pixels)) (payloadOf format pixels)
+
+-- for every frame start and end
+abbrev pub ShortReadsBack : Type 0
+ShortReadsBack =
+    (identifier : ℕ) (sync : FrameSync) (number place : ℕ) (buffer bytes : List ℕ) → identifier < 256 → number < 65536
+    → shortReply identifier sync number (length buffer) place ≡ given bytes
+    → ReadsAs (drop place (written buffer place bytes)) (syncIdentifier identifier sync) number []

@@ -1,0 +1,106 @@
+-- I2C address translation: document 01, "Who hears an address".
+-- Assumes nothing.
+use mathlib.Core.Bool.{Bool, cond, not, _&&_}
+use mathlib.Core.List.{List, [], _∷_}
+use Prim.Native.Nat.{ℕ, zero, suc, _+_, _/_}
+use lib.Dec.{eqb, ltb}
+use Rattle.laws.specs.Bits.{bit}
+use Rattle.laws.specs.Reply.{Reply, refused, given}
+use Rattle.registers.specs.RegisterMap.{BCC-CONFIG, SER-ID, SER-ALIAS-ID, TARGET-ID-0, TARGET-ALIAS-0}
+use Rattle.registers.specs.RegisterFiles.{pageAt, readPort}
+use Rattle.hub.specs.declared.Hub.{Hub as HubState}
+use Rattle.translation.specs.declared.Remote.the-variants.{Serializer, Target}
+use Rattle.translation.specs.declared.PortDevice.{PortDevice}
+use Rattle.translation.specs.declared.PortAnswer.{PortAnswer}
+use Rattle.translation.specs.declared.PortAnswer.the-variants.{NoMatch, Device}
+use Rattle.translation.specs.declared.Devices.{Devices}
+use Rattle.translation.specs.declared.WriteAnswer.{WriteAnswer}
+use Rattle.translation.specs.declared.ReadAnswer.{ReadAnswer}
+
+-- the address in bits 7 to 1 of a register
+abbrev pub address7 : ℕ → ℕ
+address7 register = register / 2
+
+-- the alias register "has the address in bits 7 to 1. An alias of zero is off, so address 0 finds nobody."
+unfoldable pub isAlias : ℕ → ℕ → Bool
+isAlias register address = not (eqb (address7 register) 0) && eqb (address7 register) address
+
+-- of the n targets from number k on "the lowest-numbered target whose alias has the address in bits 7 to 1"
+unfoldable pub targetFrom : List ℕ → ℕ → ℕ → ℕ → ℕ → PortAnswer
+targetFrom pages port address k zero = NoMatch
+targetFrom pages port address k (suc n) =
+    cond (isAlias (pageAt pages port (TARGET-ALIAS-0 + k)) address)
+    (Device port (Target k (address7 (pageAt pages port (TARGET-ID-0 + k)))))
+    (targetFrom pages port address (suc k) n)
+
+-- "on each port whose 0x58 has bit 6 set: its serializer if the address equals bits 7 to 1 of 0x5C; else the lowest-numbered target [...] The device addressed
+-- remotely is bits 7 to 1 of 0x5B or of that target's address register, zero included." (Bit 6 is I2C_PASS_THROUGH.)
+unfoldable pub onPort : List ℕ → ℕ → ℕ → PortAnswer
+onPort pages port address =
+    cond (bit 6 (pageAt pages port BCC-CONFIG))
+    (cond (isAlias (pageAt pages port SER-ALIAS-ID) address)
+    (Device port (Serializer (address7 (pageAt pages port SER-ID))))
+    (targetFrom pages port address 0 8))
+    NoMatch
+
+-- each port's answer, "ports rising"
+abbrev pub onPorts : List ℕ → ℕ → List PortAnswer
+onPorts pages address = onPort pages 0 address ∷ onPort pages 1 address ∷ onPort pages 2 address ∷ onPort pages 3 address ∷ []
+
+-- the devices of the ports that match
+unfoldable pub matching : List PortAnswer → List PortDevice
+matching [] = []
+matching (NoMatch ∷ answers) = matching answers
+matching (Device port remote ∷ answers) = record { port = port; remote = remote } ∷ matching answers
+
+-- "An answer says hub, none, or a device": for a write, the devices
+pub data Addressed (A : Type 0) : Type 0 where
+  theHub : Addressed A
+  nobody : Addressed A
+  found : A → Addressed A
+
+-- "A write reaches every matching port's device, ports rising. [...] No match gives the ordinary answer "none"."
+abbrev pub reached : List PortDevice → Addressed (List PortDevice)
+reached [] = nobody
+reached (d ∷ ds) = found (d ∷ ds)
+
+-- Who hears a write (the question's name is document 01's). Refusal 2: "address above 0x7F"; "The hub's own address: the hub alone."; otherwise the ports.
+unfoldable pub whoHearsWrite : HubState → ℕ → Reply (Addressed (List PortDevice))
+whoHearsWrite hub address =
+    cond (ltb 0x7F address) (refused 2)
+    (cond (eqb address (hub .address)) (given theHub) (given (reached (matching (onPorts (hub .registers .pages) address)))))
+
+-- "A read is answered by the read port if that port matches; else by the one matching port if there is exactly one; with two or more it is unclear", refusal 9
+abbrev pub answered : PortAnswer → List PortDevice → Reply (Addressed PortDevice)
+answered (Device port remote) ds = given (found (record { port = port; remote = remote }))
+answered NoMatch [] = given nobody
+answered NoMatch (d ∷ []) = given (found d)
+answered NoMatch (d ∷ e ∷ ds) = refused 9
+
+-- who answers a read
+unfoldable pub whoAnswersRead : HubState → ℕ → Reply (Addressed PortDevice)
+whoAnswersRead hub address =
+    let pages = hub .registers .pages in
+    cond (ltb 0x7F address) (refused 2)
+    (cond (eqb address (hub .address)) (given theHub)
+    (answered (onPort pages (readPort (hub .registers)) address) (matching (onPorts pages address))))
+
+-- the paper's numbers and values for each case of the two answers
+abbrev pub devicesOf : Devices → List PortDevice
+devicesOf (Devices.One a) = a ∷ []
+devicesOf (Devices.Two a b) = a ∷ b ∷ []
+devicesOf (Devices.Three a b c) = a ∷ b ∷ c ∷ []
+devicesOf (Devices.Four a b c d) = a ∷ b ∷ c ∷ d ∷ []
+
+abbrev pub writeReply : WriteAnswer → Reply (Addressed (List PortDevice))
+writeReply WriteAnswer.AddressAbove7F = refused 2
+writeReply WriteAnswer.Hub = given theHub
+writeReply WriteAnswer.Nobody = given nobody
+writeReply (WriteAnswer.Devices devices) = given (found (devicesOf devices))
+
+abbrev pub readReply : ReadAnswer → Reply (Addressed PortDevice)
+readReply ReadAnswer.AddressAbove7F = refused 2
+readReply ReadAnswer.Unclear = refused 9
+readReply ReadAnswer.Hub = given theHub
+readReply ReadAnswer.Nobody = given nobody
+readReply (ReadAnswer.Device port remote) = given (found (record { port = port; remote = remote }))
