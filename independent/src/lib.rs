@@ -1,6 +1,6 @@
 //! A second opinion on the DS90UB964-Q1 hub: the rules of document 01 and of requests L1 and L2
-//! written anew, seeded generators of traces and scripts, and a comparison of any trace player and of any
-//! converter of scripts with the ones written here.
+//! written anew, seeded generators of traces and scripts, and a comparison of any trace player and
+//! of any converter of scripts with the ones written here.
 
 #![deny(unsafe_code)]
 
