@@ -9,12 +9,13 @@ use Rattle.registers.specs.RegisterFiles.{pageResetAt, resetFile, writeShared, 
 use Rattle.hub.specs.Hubs.{hubAt, hubBurst, hubRead}
 use Rattle.ecc.specs.CheckBytes.{onesAmong, checkByte}
 use Rattle.ecc.specs.HeaderCorrection.{isRight, correctFrom, correctionOf}
-use Rattle.csi2.specs.Raw.{packGroup, packGroups, payloadOf}
+use Rattle.laws.specs.Groups.{groups}
+use Rattle.packing.specs.Raw.{packGroup, payloadOf}
 use Rattle.reader.specs.Reader.{readBody, readPacket}
 use Rattle.cases.specs.StarredCases.{StarredCases}
 
 pub starred-cases : StarredCases
-unfolding bit masked tabulate tabulateFrom rows rowIn resetOf maskOf perPort pageResetAt resetFile writeShared writePage writePorts writeRegister writeBurst readRegister hubAt hubBurst hubRead onesAmong checkByte isRight correctFrom correctionOf readBody readPacket packGroup packGroups payloadOf
+unfolding bit masked tabulate tabulateFrom rows rowIn resetOf maskOf perPort pageResetAt resetFile writeShared writePage writePorts writeRegister writeBurst readRegister hubAt hubBurst hubRead onesAmong checkByte isRight correctFrom correctionOf readBody readPacket groups packGroup payloadOf
 starred-cases =
     record {
       csiSpeed = refl;

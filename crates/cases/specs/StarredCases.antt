@@ -9,7 +9,7 @@ use Rattle.hub.specs.declared.Hub.{Hub}
 use Rattle.hub.specs.Hubs.{hubAt, hubBurst, hubRead}
 use Rattle.ecc.specs.declared.Corrected.the-variants.{HeaderBit}
 use Rattle.ecc.specs.CheckBytes.{checkByte}
-use Rattle.csi2.specs.Raw.{payloadOf}
+use Rattle.packing.specs.Raw.{payloadOf}
 use Rattle.reader.specs.Reader.{readPacket}
 
 -- a hub after reset

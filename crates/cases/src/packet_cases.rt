@@ -2,10 +2,9 @@
 use crate::print;
 use csi2::line;
 use csi2::line::LineAnswer;
-use csi2::raw;
-use csi2::raw::PackAnswer;
 use ecc::Corrected;
 use formats::Format;
+use packing::PackAnswer;
 use reader::PacketRead;
 
 // The standard's two checksum vectors.
@@ -105,7 +104,7 @@ fn print_read(bytes: &[u8]) {
 
 fn print_packed(format: Format, pixels: &[u16]) {
     let mut buf = [0u8; 8];
-    match raw::pack_line(format, pixels, &mut buf, 0) {
+    match packing::pack_line(format, pixels, &mut buf, 0) {
         PackAnswer::WidthNotAllowed => print::refusal(5),
         PackAnswer::PixelTooLarge => print::refusal(6),
         PackAnswer::NoRoom => print::refusal(8),

@@ -1,3 +1,1 @@
-pub mod RawLaws
-pub mod CheckLaws
 pub mod WriterLaws

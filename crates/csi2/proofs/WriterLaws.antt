@@ -3,54 +3,26 @@
 use mathlib.Core.Path.{_≡_, refl, sym, ap, ap₂, _∙_}
 use mathlib.Core.Bool.{Bool, true, false, cond}
 use mathlib.Core.List.{List, _++_}
-use Prim.Native.Nat.{ℕ, _+_, _-_, _≤_}
-use borrow.Author.Tests.{le-leb, lt-leb, leb-true, leb-false}
-use lib.Dec.{leb}
+use Prim.Native.Nat.{ℕ, _+_, _≤_}
 use lib.ListN.{length, take, drop, length-append}
 use native.Mathlib.Omega.{arith}
 use Rattle.laws.specs.Reply.{Reply, refused, given}
-use Rattle.laws.specs.Buffers.{written, afterReply, countOf}
-use Rattle.laws.proofs.Buffers.{length-written, written-more, read-written}
+use Rattle.laws.specs.Buffers.{written, hasRoom, afterReply, countOf}
+use Rattle.laws.proofs.Buffers.{length-written, written-more, read-written, room-none, room-enough, answered-so}
 use Rattle.formats.specs.declared.Format.{Format}
 use Rattle.crc.specs.Checksum.{crcOf}
+use Rattle.packing.specs.declared.check.PixelCheck.{PixelCheck}
+use Rattle.packing.specs.declared.check.PixelCheck.the-variants.{Fit}
+use Rattle.packing.specs.Raw.{payloadOf}
+use Rattle.packing.specs.Packing.{checkOf, afterCheck}
+use Rattle.packing.specs.Lengths.{payloadLength}
+use Rattle.packing.proofs.RawLaws.{length-payload}
+use Rattle.packing.proofs.CheckLaws.{if-pixels}
 use Rattle.csi2.specs.declared.line.PacketAnswer.{PacketAnswer}
-use Rattle.csi2.specs.declared.raw.PixelCheck.{PixelCheck}
-use Rattle.csi2.specs.declared.raw.PixelCheck.the-variants.{Fit}
 use Rattle.csi2.specs.declared.short.FrameSync.{FrameSync}
-use Rattle.csi2.specs.Raw.{payloadOf}
 use Rattle.csi2.specs.Packets.{littleEndian, isShort, headerBytes, syncIdentifier, longPacket}
-use Rattle.csi2.specs.Writers.{ifRoom, packLineReply, shortReply, packetReply, lineReply, lineDropped, sentReply, forwardReply, ForwardedCount, droppedLine, sentBytes, forwardCount, afterForward}
-use Rattle.csi2.specs.Checking.{payloadLength, hasRoom, checkOf, packetAnswerReply}
-use Rattle.csi2.proofs.RawLaws.{length-payload}
-use Rattle.csi2.proofs.CheckLaws.{afterCheck, if-pixels}
-
--- a refusal is the answer, and the buffer stays
-pub refusal : (d : List ℕ) (place number : ℕ) {reply : Reply (List ℕ)} → reply ≡ refused number
-    → (refused number ≡ countOf reply) × (d ≡ afterReply d place reply)
-refusal d place number e = (sym (ap countOf e), sym (ap (afterReply d place) e))
-
--- the bytes that were written are the answer and stand in the buffer
-pub writing : (d : List ℕ) (place n : ℕ) (bytes : List ℕ) {after : List ℕ} {reply : Reply (List ℕ)} → reply ≡ given bytes → n ≡ length bytes
-    → after ≡ written d place bytes → (given n ≡ countOf reply) × (after ≡ afterReply d place reply)
-writing d place n bytes e l a = (ap given l ∙ sym (ap countOf e), a ∙ sym (ap (afterReply d place) e))
-
--- the test for room without the sum, which may be too large for the machine
-pub room-test : (size place needed : ℕ) → needed ≤ size → leb place (size - needed) ≡ hasRoom size place needed
-room-test size place needed h = go (leb place (size - needed)) refl
-  where
-    go : (b : Bool) → leb place (size - needed) ≡ b → b ≡ hasRoom size place needed
-    go true e = let l = leb-true place (size - needed) e in sym (le-leb (place + needed) size (omega arith))
-    go false e = let l = leb-false place (size - needed) e in sym (lt-leb (place + needed) size (omega arith))
-
--- bytes by that test, where the source knows how many they are
-module _ (size place : ℕ) (bytes : List ℕ) (n : ℕ) (count : length bytes ≡ n) where
-  pub room-none : hasRoom size place n ≡ false → ifRoom size place bytes ≡ refused 8
-  unfolding ifRoom
-  room-none e = rw (count, e)
-
-  pub room-enough : hasRoom size place n ≡ true → ifRoom size place bytes ≡ given bytes
-  unfolding ifRoom
-  room-enough e = rw (count, e)
+use Rattle.csi2.specs.Writers.{shortReply, packetReply, lineReply, lineDropped, sentReply, forwardReply, ForwardedCount, droppedLine, sentBytes, forwardCount, afterForward}
+use Rattle.csi2.specs.PacketAnswers.{packetAnswerReply}
 
 -- each writer's answer by the tests that the source makes
 module _ (identifier : ℕ) (sync : FrameSync) (number size place : ℕ) where
@@ -86,18 +58,6 @@ module _ (format : Format) (pixels : List ℕ) (identifier size place : ℕ) whe
     unfolding packetReply
     packet-given e = rw long (room-enough size place (longPacket identifier (payloadOf format pixels)) (6 + n) packet-count e)
 
--- a payload behind the test of its pixels: a refusal of the test, or the answer behind it
-pub pack-checked : (format : Format) (pixels d : List ℕ) (place : ℕ) {check : PixelCheck} → checkOf format pixels ≡ check
-    → packLineReply format pixels (length d) place ≡ afterCheck check (ifRoom (length d) place (payloadOf format pixels))
-unfolding packLineReply
-pack-checked format pixels d place checked =
-    let next = ifRoom (length d) place (payloadOf format pixels) in
-    if-pixels format pixels next ∙ ap (λ (k : PixelCheck). afterCheck k next) checked
-
-pub packed-so : (d : List ℕ) (place : ℕ) {answer : Reply ℕ} {after : List ℕ} {reply next : Reply (List ℕ)} → reply ≡ next
-    → answer ≡ countOf next → after ≡ afterReply d place next → (answer ≡ countOf reply) × (after ≡ afterReply d place reply)
-packed-so d place e p q = (p ∙ sym (ap countOf e), q ∙ sym (ap (afterReply d place) e))
-
 -- a line behind the test of its pixels: a refusal of the test, or the packet writer's answer
 module _ (format : Format) (pixels : List ℕ) (identifier : ℕ) (d : List ℕ) (place : ℕ) {check : PixelCheck} (checked : checkOf format pixels ≡ check) where
   pub line-checked : lineReply format pixels identifier (length d) place ≡ afterCheck check (packetReply format pixels identifier (length d) place)
@@ -117,7 +77,7 @@ module _ (format : Format) (pixels : List ℕ) (identifier : ℕ) (d : List ℕ)
 -- the packet writer's answer is that of the line
 pub same-answer : (d : List ℕ) (place : ℕ) {answer known : PacketAnswer} {after : List ℕ} {reply next : Reply (List ℕ)} → reply ≡ next → answer ≡ known
     → packetAnswerReply answer ≡ countOf next → after ≡ afterReply d place next → (packetAnswerReply known ≡ countOf reply) × (after ≡ afterReply d place reply)
-same-answer d place e k p q = packed-so d place e (ap packetAnswerReply (sym k) ∙ p) q
+same-answer d place e k p q = answered-so d place e (ap packetAnswerReply (sym k) ∙ p) q
 
 -- the answer of the packet writer as that of a line that was forwarded
 abbrev pub sentCount : Reply ℕ → Reply ForwardedCount

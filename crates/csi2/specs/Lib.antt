@@ -1,4 +1,3 @@
-pub mod Raw
 pub mod Packets
 pub mod Writers
-pub mod Checking
+pub mod PacketAnswers

@@ -5,24 +5,15 @@ use mathlib.Core.List.{List}
 use Prim.Native.Nat.{ℕ}
 use lib.ListN.{length}
 use Rattle.laws.specs.Reply.{Reply, refused, given}
-use Rattle.laws.specs.Buffers.{written}
-unfoldable pub use Rattle.laws.specs.Buffers.{ifRoom}
+use Rattle.laws.specs.Buffers.{written, ifRoom}
 use Rattle.formats.specs.declared.Format.{Format}
-use Rattle.csi2.specs.declared.raw.PackAnswer.{PackAnswer}
+use Rattle.packing.specs.Raw.{payloadOf}
+use Rattle.packing.specs.Packing.{ifPixels}
 use Rattle.csi2.specs.declared.short.FrameSync.{FrameSync}
 use Rattle.csi2.specs.declared.short.ShortAnswer.{ShortAnswer}
 use Rattle.csi2.specs.declared.line.LineAnswer.{LineAnswer}
 use Rattle.csi2.specs.declared.line.ForwardAnswer.{ForwardAnswer}
-use Rattle.csi2.specs.Raw.{payloadOf, widthAllowed, allFit}
 use Rattle.csi2.specs.Packets.{isShort, headerBytes, syncIdentifier, longPacket}
-
--- what follows, if the pixels are good; otherwise 5: "width not allowed for the format"; 6: "a pixel does not fit the format"
-abbrev pub ifPixels : {A : Type 0} → Format → List ℕ → Reply A → Reply A
-ifPixels format pixels next = cond (widthAllowed format (length pixels)) (cond (allFit format pixels) next (refused 6)) (refused 5)
-
--- a payload alone, as a packet would be (the papers speak of packets): 5, 6, 8
-unfoldable pub packLineReply : Format → List ℕ → ℕ → ℕ → Reply (List ℕ)
-packLineReply format pixels size place = ifPixels format pixels (ifRoom size place (payloadOf format pixels))
 
 -- a frame start or end: 8
 unfoldable pub shortReply : ℕ → FrameSync → ℕ → ℕ → ℕ → Reply (List ℕ)
@@ -67,12 +58,6 @@ forwardCount (given lineDropped) = given droppedLine
 forwardCount (given (lineSent bytes)) = given (sentBytes (length bytes))
 
 -- the paper's numbers and values for each case of the answers
-abbrev pub packAnswerReply : PackAnswer → Reply ℕ
-packAnswerReply PackAnswer.WidthNotAllowed = refused 5
-packAnswerReply PackAnswer.PixelTooLarge = refused 6
-packAnswerReply PackAnswer.NoRoom = refused 8
-packAnswerReply (PackAnswer.Packed bytes) = given bytes
-
 abbrev pub shortAnswerReply : ShortAnswer → Reply ℕ
 shortAnswerReply ShortAnswer.NoRoom = refused 8
 shortAnswerReply (ShortAnswer.Wrote bytes) = given bytes

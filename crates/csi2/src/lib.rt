@@ -1,6 +1,4 @@
 // CSI-2 packets, written into a lent buffer from a given place.
 mod header;
 pub mod line;
-pub mod raw;
-mod room;
 pub mod short;

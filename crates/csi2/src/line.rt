@@ -5,15 +5,16 @@ ghost use Prim.Native.Nat.{_+_, _≤_};
 ghost use lib.ListN.{length, take, drop};
 ghost use Rattle.laws.specs.Buffers.{written, afterReply, countOf};
 ghost use Rattle.crc.specs.Checksum.{crcOf};
-ghost use Rattle.csi2.specs.Raw.{payloadOf, widthAllowed};
+ghost use Rattle.packing.specs.Raw.{payloadOf, widthAllowed};
+ghost use Rattle.packing.specs.Lengths.{payloadLength};
 ghost use Rattle.csi2.specs.Packets.{littleEndian, longPacket};
 ghost use Rattle.csi2.specs.Writers.{packetReply, lineAnswerReply, lineReply, forwardAnswerReply, forwardReply, forwardCount, afterForward};
-ghost use Rattle.csi2.specs.Checking.{payloadLength, packetAnswerReply};
+ghost use Rattle.csi2.specs.PacketAnswers.{packetAnswerReply};
 use crate::header;
-use crate::raw;
-use crate::raw::PixelCheck;
-use crate::room;
 use formats::Format;
+use packing::check;
+use packing::check::PixelCheck;
+use packing::groups;
 
 // The bytes written, or why none were.
 pub enum LineAnswer {
@@ -56,9 +57,9 @@ fn put_packet(part: &mut [u8], format: Format, pixels: &[u16], identifier: u8)
     requires { ⌜ (length (now pixels) ≤ 4096) × (6 + payloadLength format (length (now pixels)) ≤ length (now part)) ⌝ }
     ensures { λ _. ⌜ now (part .exit) ≡ written (now (part .entry)) 0 (longPacket identifier (payloadOf format (now (pixels .entry)))) ⌝ }
 {
-    let count = raw::payload_length(format, pixels.len());
+    let count = packing::payload_length(format, pixels.len() as u16);
     header::put_header(part, identifier, count as u16);
-    raw::pack_at(format, pixels, part, 4);
+    groups::pack_groups(format, pixels, part, 4);
     put_checksum(part, count);
 }
 
@@ -84,7 +85,7 @@ fn write_packet(
     if identifier % 64 <= 0x0F {
         return PacketAnswer::ShortType;
     }
-    let needed = 6 + raw::payload_length(format, pixels.len());
+    let needed = 6 + packing::payload_length(format, pixels.len() as u16);
     if !room::has_room(buf.len(), place, needed) {
         return PacketAnswer::NoRoom;
     }
@@ -102,7 +103,7 @@ pub fn write_line(
 ) -> LineAnswer
     ensures { λ r. ⌜ (lineAnswerReply r ≡ countOf (lineReply format (now (pixels .entry)) identifier (length (now (buf .entry))) place)) × (now (buf .exit) ≡ afterReply (now (buf .entry)) place (lineReply format (now (pixels .entry)) identifier (length (now (buf .entry))) place)) ⌝ }
 {
-    match raw::check_pixels(format, pixels) {
+    match check::check_pixels(format, pixels) {
         PixelCheck::WidthNotAllowed => LineAnswer::WidthNotAllowed,
         PixelCheck::PixelTooLarge => LineAnswer::PixelTooLarge,
         PixelCheck::Fit => match write_packet(format, pixels, identifier, buf, place) {
@@ -124,7 +125,7 @@ pub fn forward_line(
 ) -> ForwardAnswer
     ensures { λ r. ⌜ (forwardAnswerReply r ≡ forwardCount (forwardReply format (now (pixels .entry)) forwarded identifier (length (now (buf .entry))) place)) × (now (buf .exit) ≡ afterForward (now (buf .entry)) place (forwardReply format (now (pixels .entry)) forwarded identifier (length (now (buf .entry))) place)) ⌝ }
 {
-    match raw::check_pixels(format, pixels) {
+    match check::check_pixels(format, pixels) {
         PixelCheck::WidthNotAllowed => ForwardAnswer::WidthNotAllowed,
         PixelCheck::PixelTooLarge => ForwardAnswer::PixelTooLarge,
         PixelCheck::Fit => {

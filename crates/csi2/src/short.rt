@@ -6,7 +6,6 @@ ghost use Rattle.laws.specs.Buffers.{written, afterReply, countOf};
 ghost use Rattle.csi2.specs.Packets.{syncIdentifier, headerBytes};
 ghost use Rattle.csi2.specs.Writers.{shortAnswerReply, shortReply};
 use crate::header;
-use crate::room;
 
 // The frame synchronization packets.
 pub enum FrameSync {

@@ -1,4 +1,4 @@
-// Functions of `ecc`, `crc`, `csi2` and `reader` for programs in C and Rust. An answer that may be a refusal is one number (specs/Numbers.antt).
+// Functions of `ecc`, `crc`, `packing`, `csi2` and `reader` for programs in C and Rust. An answer that may be a refusal is one number (specs/Numbers.antt).
 // A slice is passed as its address and its length. The caller answers for both, and that no other slice overlaps a `&mut` one.
 ghost use mathlib.Core.Path.{_≡_};
 ghost use lib.ListN.{length};
@@ -8,11 +8,11 @@ ghost use Rattle.formats.specs.declared.Format.the-variants.{Raw10, Raw12};
 ghost use Rattle.ecc.specs.CheckBytes.{checkByte};
 ghost use Rattle.ecc.specs.HeaderCorrection.{correctionOf};
 ghost use Rattle.crc.specs.Checksum.{crcFrom, crcOf};
-ghost use Rattle.csi2.specs.Writers.{packLineReply, lineReply};
+ghost use Rattle.packing.specs.Packing.{packLineReply};
+ghost use Rattle.csi2.specs.Writers.{lineReply};
 ghost use Rattle.reader.specs.Reader.{readPacket, payloadRead};
 ghost use Rattle.exports.specs.Numbers.{replyNumber, correctionNumber, packetNumber};
 use csi2::line;
-use csi2::raw;
 use formats::Format;
 
 mod numbers;
@@ -55,7 +55,7 @@ pub extern "C" fn loopcinder_pack_raw10(pixels: &[u16], buf: &mut [u8], place: u
     ensures { λ r. ⌜ r ≡ replyNumber (countOf (packLineReply Raw10 (now (pixels .entry)) (length (now (buf .entry))) place)) ⌝ }
     ensures { λ _. ⌜ now (buf .exit) ≡ afterReply (now (buf .entry)) place (packLineReply Raw10 (now (pixels .entry)) (length (now (buf .entry))) place) ⌝ }
 {
-    numbers::of_pack_answer(raw::pack_line(Format::Raw10, pixels, buf, place))
+    numbers::of_pack_answer(packing::pack_line(Format::Raw10, pixels, buf, place))
 }
 
 // The same for a line of RAW12.
@@ -64,7 +64,7 @@ pub extern "C" fn loopcinder_pack_raw12(pixels: &[u16], buf: &mut [u8], place: u
     ensures { λ r. ⌜ r ≡ replyNumber (countOf (packLineReply Raw12 (now (pixels .entry)) (length (now (buf .entry))) place)) ⌝ }
     ensures { λ _. ⌜ now (buf .exit) ≡ afterReply (now (buf .entry)) place (packLineReply Raw12 (now (pixels .entry)) (length (now (buf .entry))) place) ⌝ }
 {
-    numbers::of_pack_answer(raw::pack_line(Format::Raw12, pixels, buf, place))
+    numbers::of_pack_answer(packing::pack_line(Format::Raw12, pixels, buf, place))
 }
 
 // Writes a line of RAW10 as a packet from the place; or refuses it and writes nothing. How many bytes were written.

@@ -1,15 +1,16 @@
-// The answers of `ecc`, `csi2` and `reader` as numbers of 64 bits.
+// The answers of `ecc`, `packing`, `csi2` and `reader` as numbers of 64 bits.
 ghost use mathlib.Core.Path.{_≡_};
 ghost use Prim.Native.Nat.{_*_, _^_};
 ghost use Rattle.laws.specs.Reply.{onReply};
 ghost use Rattle.ecc.specs.HeaderCorrection.{correctionReply};
-ghost use Rattle.csi2.specs.Writers.{packAnswerReply, lineAnswerReply};
+ghost use Rattle.packing.specs.Packing.{packAnswerReply};
+ghost use Rattle.csi2.specs.Writers.{lineAnswerReply};
 ghost use Rattle.reader.specs.Reader.{packetReadReply};
 ghost use Rattle.exports.specs.Numbers.{replyNumber, correctedNumber, correctionNumber, packetNumber};
 use csi2::line::LineAnswer;
-use csi2::raw::PackAnswer;
 use ecc::Corrected;
 use ecc::Correction;
+use packing::PackAnswer;
 use reader::PacketRead;
 
 // A refusal: its number in the top byte.

@@ -17,13 +17,14 @@ use Rattle.hub.specs.declared.LastFrame.the-variants.{NoFrame, Closed, Open}
 use Rattle.hub.specs.Hubs.{isOpen}
 use Rattle.hub.specs.Routes.{PortRoute, off, output, routeOf}
 use Rattle.hub.proofs.Routes.{route-given}
+use Rattle.packing.specs.Raw.{widthAllowed, allFit}
+use Rattle.packing.specs.Packing.{ifPixels}
 use Rattle.csi2.specs.declared.short.FrameSync.{FrameSync}
 use Rattle.csi2.specs.declared.short.ShortAnswer.{ShortAnswer}
 use Rattle.csi2.specs.declared.short.FrameSync.the-variants.{FrameStart, FrameEnd}
 use Rattle.csi2.specs.declared.line.ForwardAnswer.{ForwardAnswer}
-use Rattle.csi2.specs.Raw.{widthAllowed, allFit}
 use Rattle.csi2.specs.Writers as writers
-use Rattle.csi2.specs.Writers.{ifPixels, shortReply, shortAnswerReply, packetReply, sentReply, forwardReply, forwardCount, afterForward, forwardAnswerReply}
+use Rattle.csi2.specs.Writers.{shortReply, shortAnswerReply, packetReply, sentReply, forwardReply, forwardCount, afterForward, forwardAnswerReply}
 use Rattle.frames.specs.declared.sync.SyncAnswer.{SyncAnswer}
 use Rattle.frames.specs.declared.sync.SyncAnswer.the-variants.{NoRoom, Dropped, Sent}
 use Rattle.frames.specs.declared.port.Exit.{Exit}

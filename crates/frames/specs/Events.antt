@@ -19,8 +19,9 @@ use Rattle.hub.specs.declared.LastFrame.the-variants.{NoFrame, Closed, Open}
 use Rattle.hub.specs.declared.Hub.{Hub}
 use Rattle.hub.specs.Hubs.{isOpen, frameNumber, firstFrames}
 use Rattle.hub.specs.Routes.{PortRoute, off, output, forwardedBy}
+use Rattle.packing.specs.Packing.{ifPixels}
 use Rattle.csi2.specs.declared.short.FrameSync.the-variants.{FrameStart, FrameEnd}
-use Rattle.csi2.specs.Writers.{ifPixels, shortReply, packetReply}
+use Rattle.csi2.specs.Writers.{shortReply, packetReply}
 use Rattle.frames.specs.declared.start.StartAnswer.{StartAnswer}
 use Rattle.frames.specs.declared.line.LineAnswer.{LineAnswer}
 use Rattle.frames.specs.declared.end.EndAnswer.{EndAnswer}

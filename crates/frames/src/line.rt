@@ -2,7 +2,8 @@
 ghost use mathlib.Core.Path.{_≡_};
 ghost use Prim.Native.Nat.{_≤_};
 ghost use lib.ListN.{length};
-ghost use Rattle.csi2.specs.Writers.{ifPixels, packetReply, forwardAnswerReply};
+ghost use Rattle.packing.specs.Packing.{ifPixels};
+ghost use Rattle.csi2.specs.Writers.{packetReply, forwardAnswerReply};
 ghost use Rattle.frames.specs.Events.{identifierAt, portRoute, forwardOn, lineEvent, eventReply, bufferAfter, toldOf, lineAnswerReply};
 ghost use Rattle.frames.specs.Exits.{forwardTold};
 use crate::port;

@@ -1,15 +1,19 @@
--- Laws of a buffer that was written into from a place.
+-- Laws of a buffer that was written into from a place, and of an answer with the buffer behind it.
 -- Assumes nothing.
 use mathlib.Core.Path.{_≡_, refl, sym, ap, ap₂, _∙_}
+use mathlib.Core.Bool.{Bool, true, false}
 use mathlib.Core.List.{List, [], _∷_, _++_, append-assoc, append-nil}
 use Prim.Native.Nat.{ℕ, zero, suc, _+_, _-_, _<_, _≤_}
 use native.Mathlib.Nat.{add-zero, zero-add, add-assoc}
 use native.Mathlib.Numerals.{add-one}
 use native.Mathlib.Omega.{arith}
+use borrow.Author.Tests.{le-leb, lt-leb, leb-true, leb-false}
+use lib.Dec.{leb}
 use lib.ListN.{length, take, drop, getD, set, length-append, length-drop, take-append-drop}
 use lib.Seq.{take-all, drop-length, length-take-le, drop-cons, take-add, take-at, drop-at, drop-append-add, sets, sets-eq, paste, paste-suc, drop-drop}
 use borrow.Rule.Slice.PartMut.{putMid, midOf, postOf, post-is}
-use Rattle.laws.specs.Buffers.{written}
+use Rattle.laws.specs.Reply.{Reply, refused, given}
+use Rattle.laws.specs.Buffers.{written, hasRoom, ifRoom, afterReply, countOf}
 
 -- nothing written
 pub written-nil : (d : List ℕ) (at : ℕ) → written d at [] ≡ d
@@ -98,3 +102,36 @@ run-eq (suc k) i l h =
 
 pub take-run : (k i : ℕ) (l : List ℕ) → i + k ≤ length l → take (i + k) l ≡ take i l ++ run k i l
 take-run k i l h = take-add i k l ∙ ap (λ (r : List ℕ). take i l ++ r) (run-eq k i l h)
+
+-- the test for room without the sum, which may be too large for the machine
+pub room-test : (size place needed : ℕ) → needed ≤ size → leb place (size - needed) ≡ hasRoom size place needed
+room-test size place needed h = go (leb place (size - needed)) refl
+  where
+    go : (b : Bool) → leb place (size - needed) ≡ b → b ≡ hasRoom size place needed
+    go true e = let l = leb-true place (size - needed) e in sym (le-leb (place + needed) size (omega arith))
+    go false e = let l = leb-false place (size - needed) e in sym (lt-leb (place + needed) size (omega arith))
+
+-- bytes by that test, where the source knows how many they are
+module _ (size place : ℕ) (bytes : List ℕ) (n : ℕ) (count : length bytes ≡ n) where
+  pub room-none : hasRoom size place n ≡ false → ifRoom size place bytes ≡ refused 8
+  unfolding ifRoom
+  room-none e = rw (count, e)
+
+  pub room-enough : hasRoom size place n ≡ true → ifRoom size place bytes ≡ given bytes
+  unfolding ifRoom
+  room-enough e = rw (count, e)
+
+-- a refusal is the answer, and the buffer stays
+pub refusal : (d : List ℕ) (place number : ℕ) {reply : Reply (List ℕ)} → reply ≡ refused number
+    → (refused number ≡ countOf reply) × (d ≡ afterReply d place reply)
+refusal d place number e = (sym (ap countOf e), sym (ap (afterReply d place) e))
+
+-- the bytes that were written are the answer and stand in the buffer
+pub writing : (d : List ℕ) (place n : ℕ) (bytes : List ℕ) {after : List ℕ} {reply : Reply (List ℕ)} → reply ≡ given bytes → n ≡ length bytes
+    → after ≡ written d place bytes → (given n ≡ countOf reply) × (after ≡ afterReply d place reply)
+writing d place n bytes e l a = (ap given l ∙ sym (ap countOf e), a ∙ sym (ap (afterReply d place) e))
+
+-- what was answered by one reply was answered by an equal one
+pub answered-so : (d : List ℕ) (place : ℕ) {answer : Reply ℕ} {after : List ℕ} {reply next : Reply (List ℕ)} → reply ≡ next
+    → answer ≡ countOf next → after ≡ afterReply d place next → (answer ≡ countOf reply) × (after ≡ afterReply d place reply)
+answered-so d place e p q = (p ∙ sym (ap countOf e), q ∙ sym (ap (afterReply d place) e))

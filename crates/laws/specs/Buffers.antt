@@ -1,6 +1,6 @@
 -- A lent buffer after some bytes were written into it from a place.
 -- Assumes nothing.
-use mathlib.Core.Bool.{cond}
+use mathlib.Core.Bool.{Bool, cond}
 use mathlib.Core.List.{List, _++_}
 use Prim.Native.Nat.{ℕ, _+_}
 use lib.Dec.{leb}
@@ -11,9 +11,13 @@ use Rattle.laws.specs.Reply.{Reply, refused, given}
 unfoldable pub written : List ℕ → ℕ → List ℕ → List ℕ
 written buffer place bytes = take place buffer ++ bytes ++ drop (place + length bytes) buffer
 
+-- so many elements from the place on are inside a buffer of that size
+abbrev pub hasRoom : ℕ → ℕ → ℕ → Bool
+hasRoom size place needed = leb (place + needed) size
+
 -- the bytes, if they have room in a buffer of that size; otherwise 8: "fewer bytes free from the place than the packet needs, or the place is beyond the buffer"
 unfoldable pub ifRoom : ℕ → ℕ → List ℕ → Reply (List ℕ)
-ifRoom size place bytes = cond (leb (place + length bytes) size) (given bytes) (refused 8)
+ifRoom size place bytes = cond (hasRoom size place (length bytes)) (given bytes) (refused 8)
 
 -- Demand 1: "A refusal [...] writes no byte of a lent buffer"
 abbrev pub afterReply : List ℕ → ℕ → Reply (List ℕ) → List ℕ

@@ -4,3 +4,5 @@ pub mod Reply
 pub mod Tables
 pub mod Buffers
 pub mod Texts
+pub mod Groups
+pub mod Elements

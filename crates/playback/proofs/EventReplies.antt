@@ -10,6 +10,7 @@ use lib.Dec.{leb, ltb, eqb}
 use lib.ListN.{length}
 use Rattle.laws.specs.Bits.{digit, bit}
 use Rattle.laws.specs.Reply.{Reply, refused, given}
+use Rattle.laws.specs.Buffers.{ifRoom}
 use Rattle.formats.specs.declared.Format.{Format}
 use Rattle.formats.specs.declared.Format.the-variants.{Raw10, Raw12}
 use Rattle.formats.specs.Formats.{formatOf}
@@ -20,14 +21,13 @@ use Rattle.hub.specs.declared.LastFrame.{LastFrame}
 use Rattle.hub.specs.declared.LastFrame.the-variants.{NoFrame, Closed, Open}
 use Rattle.hub.specs.Hubs.{isOpen}
 use Rattle.hub.specs.Routes.{off, output, virtualChannel, forwardedBy}
+use Rattle.packing.specs.Raw.{payloadOf, widthAllowed, allFit}
+use Rattle.packing.proofs.CheckLaws.{allowed-small}
+use Rattle.packing.proofs.RawLaws.{length-payload, payload-small}
 use Rattle.csi2.specs.declared.short.FrameSync.{FrameSync}
 use Rattle.csi2.specs.declared.short.FrameSync.the-variants.{FrameStart, FrameEnd}
-use Rattle.csi2.specs.Raw.{payloadOf, widthAllowed, allFit}
 use Rattle.csi2.specs.Packets.{isShort, headerBytes, syncIdentifier, longPacket}
-use Rattle.csi2.specs.Writers.{ifRoom, shortReply, packetReply}
-use Rattle.csi2.specs.Checking.{payloadLength}
-use Rattle.csi2.proofs.CheckLaws.{allowed-small}
-use Rattle.csi2.proofs.RawLaws.{length-payload}
+use Rattle.csi2.specs.Writers.{shortReply, packetReply}
 use Rattle.csi2.proofs.WriterLaws.{length-packet}
 use Rattle.frames.specs.Events.{startEvent, lineEvent, endEvent, lastFrame, startNumber, identifierAt, Outcome, eventDropped, eventSent, sentOn, forwardOn, portRoute}
 use Rattle.frames.specs.Events.{startWith, lineWith, endWith, eventReply}
@@ -65,14 +65,10 @@ module _ (size : ℕ) where
   unfolding packetReply
   line-fits format pixels identifier e = go (isShort identifier)
     where
-      most : (format : Format) (width : ℕ) → width ≤ 4096 → payloadLength format width ≤ 6144
-      most Raw10 width h = omega arith
-      most Raw12 width h = omega arith
-
       go : (b : Bool) → FitsRoom size (cond b (refused 7) (ifRoom size 0 (longPacket identifier (payloadOf format pixels))))
       go true = turned-away 7 (λ r q. omega arith)
       go false =
-          let h = most format (length pixels) (allowed-small format (length pixels) e) in
+          let h = payload-small format (length pixels) (allowed-small format (length pixels) e) in
           let l = length-payload format pixels in
           let k = length-packet identifier (payloadOf format pixels) in
           room-fits (longPacket identifier (payloadOf format pixels)) (omega arith) (omega arith)

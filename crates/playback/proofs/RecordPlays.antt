@@ -25,7 +25,7 @@ use Rattle.playback.specs.declared.record.RecordPlayed.{RecordPlayed}
 use Rattle.playback.specs.Playing.{Played, playHub}
 use Rattle.playback.specs.Contracts.{Plays, firstFour}
 use Rattle.playback.proofs.EventReplies.{Sound, refusing, dropping, sending}
-use Rattle.csi2.proofs.CheckLaws.{width-over}
+use Rattle.packing.proofs.CheckLaws.{width-over}
 
 -- a record that touches no packet leaves the lent buffer as it is
 pub plays-kept : (p q : Played) (result : RecordPlayed) (packets : List ℕ) → p .hub ≡ q .hub → p .reply ≡ q .reply → p .ends ≡ q .ends

@@ -10,25 +10,23 @@ use lib.Dec.{leb}
 use lib.ListN.{length, getD, take, drop, length-append}
 use lib.Seq.{take-append-seam, getD-append-seam, getD-append-add}
 use Rattle.laws.specs.Reply.{Reply, refused, given}
-use Rattle.laws.specs.Buffers.{written}
+use Rattle.laws.specs.Buffers.{written, ifRoom}
 use Rattle.laws.proofs.Buffers.{drop-written}
 use Rattle.formats.specs.declared.Format.{Format}
-use Rattle.formats.specs.declared.Format.the-variants.{Raw10, Raw12}
 use Rattle.ecc.specs.declared.Corrected.{Corrected}
 use Rattle.ecc.specs.declared.Corrected.the-variants.{Nothing, HeaderBit}
 use Rattle.crc.specs.Checksum.{crcOf}
 use Rattle.csi2.specs.declared.short.FrameSync.{FrameSync}
 use Rattle.csi2.specs.declared.short.FrameSync.the-variants.{FrameStart, FrameEnd}
-use Rattle.csi2.specs.Raw.{payloadOf, widthAllowed, allFit}
+use Rattle.packing.specs.Raw.{payloadOf, widthAllowed, allFit}
 use Rattle.csi2.specs.Packets.{isShort, littleEndian, headerBytes, syncIdentifier, longPacket}
-use Rattle.csi2.specs.Writers.{ifRoom, shortReply, packetReply, lineReply, lineDropped, lineSent, sentReply, forwardReply}
+use Rattle.csi2.specs.Writers.{shortReply, packetReply, lineReply, lineDropped, lineSent, sentReply, forwardReply}
 use Rattle.reader.specs.Reader.{checksumMatches, readBody, readPacket, payloadIn}
 use Rattle.reader.specs.RoundTrip.{ReadsWith, flippedIn, ReadsAs, LineReadsBack, ForwardedReadsBack, ShortReadsBack}
-use Rattle.csi2.proofs.RawLaws.{length-payload}
-use Rattle.csi2.proofs.CheckLaws.{allowed-small}
+use Rattle.packing.proofs.RawLaws.{length-payload, payload-small}
+use Rattle.packing.proofs.CheckLaws.{allowed-small}
 use Rattle.reader.proofs.ReaderLaws.{short-accepted, body-whole}
 use Rattle.reader.proofs.FlippedLaws.{packetOf, written-read, drop-flipped, flipped-read}
-use Rattle.csi2.specs.Checking.{payloadLength}
 
 -- a packet is read back if what stands behind its header is accepted, whichever bit of the header was corrected
 module _ (identifier n : ℕ) (rest payload : List ℕ)
@@ -103,11 +101,6 @@ line-by true true false false packet bytes e = let z : _≡_ {A = ℕ} 0 1 = cc 
 line-by true true true room packet bytes e = let z : _≡_ {A = ℕ} 0 1 = cc in absurd (omega arith)
 line-by true false short room packet bytes e = let z : _≡_ {A = ℕ} 0 1 = cc in absurd (omega arith)
 line-by false fit short room packet bytes e = let z : _≡_ {A = ℕ} 0 1 = cc in absurd (omega arith)
-
--- the payload of an allowed width has a length of 16 bits
-payload-small : (format : Format) (width : ℕ) → width ≤ 4096 → payloadLength format width < 65536
-payload-small Raw10 width h = omega arith
-payload-small Raw12 width h = omega arith
 
 -- every line that the writer accepts is read back from its place
 pub line-reads-back : LineReadsBack

@@ -12,7 +12,7 @@ use Rattle.formats.specs.declared.Format.{Format}
 use Rattle.ecc.specs.declared.Corrected.{Corrected}
 use Rattle.ecc.specs.declared.Corrected.the-variants.{Nothing, HeaderBit}
 use Rattle.csi2.specs.declared.short.FrameSync.{FrameSync}
-use Rattle.csi2.specs.Raw.{payloadOf}
+use Rattle.packing.specs.Raw.{payloadOf}
 use Rattle.csi2.specs.Packets.{syncIdentifier}
 use Rattle.csi2.specs.Writers.{lineReply, lineSent, forwardReply, shortReply}
 use Rattle.reader.specs.Reader.{readPacket, payloadRead}

@@ -3,13 +3,14 @@
 use mathlib.Core.Path.{_≡_, refl, sym, ap, _∙_}
 use mathlib.Core.Bool.{Bool, true, false, cond, _&&_}
 use mathlib.Core.List.{List, [], _∷_, _++_}
-use Prim.Native.Nat.{ℕ, zero, suc, _+_, _≤_, _<_}
+use Prim.Native.Nat.{ℕ, zero, suc, _≤_, _<_}
 use native.Mathlib.Omega.{arith}
 use borrow.Author.Tests.{ne-eqb}
 use lib.Dec.{eqb}
-use lib.ListN.{length, getD, take, drop}
-use lib.Seq.{getD-drop}
+use lib.ListN.{length, getD, drop}
 use Rattle.laws.specs.Reply.{Reply, refused, given, onReply}
+use Rattle.laws.specs.Elements.{AreBytes}
+use Rattle.laws.proofs.Elements.{below-from, below-to}
 use Rattle.registers.specs.RegisterFiles.{nextOffset, writeBurst}
 use Rattle.hub.specs.declared.Hub.{Hub}
 use Rattle.hub.specs.Hubs.{creationOf, hubBurst}
@@ -22,7 +23,6 @@ use Rattle.script.specs.Traces.{writeRecords, traceOf}
 use Rattle.listing.specs.Listing.{burstCalls, recordCalls, followedBy, laterCalls, traceCalls}
 use Rattle.playback.specs.Playing.{playRecord, usedBy, hubFrom}
 use Rattle.playback.proofs.RestLaws.{used-inside, Course, same-course}
-use Rattle.roundtrip.specs.SameEnd.{AreBytes}
 use Rattle.roundtrip.proofs.TextLaws.{Small}
 
 -- the hub after calls, each a write of one value
@@ -43,16 +43,6 @@ unfolding burstCalls
 burst-small offset [] later h bytes small = small
 burst-small offset (value ∷ values) later h bytes small =
     (h, bytes 0, burst-small (nextOffset offset) values later (omega arith) (λ i. bytes (suc i)) small)
-
--- bytes from a place on, and up to a place
-bytes-from : (n : ℕ) (l : List ℕ) → AreBytes l → AreBytes (drop n l)
-bytes-from n l bytes i = rw getD-drop (bytes (n + i))
-
-bytes-to : (n : ℕ) (l : List ℕ) → AreBytes l → AreBytes (take n l)
-bytes-to zero l bytes i = omega arith
-bytes-to (suc n) [] bytes i = omega arith
-bytes-to (suc n) (byte ∷ l) bytes zero = bytes 0
-bytes-to (suc n) (byte ∷ l) bytes (suc i) = bytes-to n l (λ k. bytes (suc k)) i
 
 -- What stands behind the first record is a write of the record's bytes, or has no calls.
 data Writes (bytes : List ℕ) : Reply TraceRecord → Type 0 where
@@ -118,8 +108,8 @@ later-lists (suc n) bytes calls e = go (eqb (length bytes) 0) (record-writes byt
         rw (last .2)
         (record {
           small = λ small.
-              let own = bytes-to (getD bytes 3 0) (drop 4 bytes) (bytes-from 4 bytes small) in
-              burst-small offset values (last .0) (own 0) (bytes-from 1 (dataOf bytes) own) (lists .small (bytes-from (recordLength bytes) bytes small));
+              let own = below-to 256 (getD bytes 3 0) (drop 4 bytes) (below-from 256 4 bytes small) in
+              burst-small offset values (last .0) (own 0) (below-from 256 1 (dataOf bytes) own) (lists .small (below-from 256 (recordLength bytes) bytes small));
           same = λ hub packets. lists .same (hubBurst hub offset values) packets ∙ burst-hub hub offset values (last .0);
         })
 
@@ -149,7 +139,7 @@ trace-runs trace address calls first e = go (creationOf address) refl (rw first 
         record {
           made = made;
           created = p;
-          small = λ bytes. lists .small (bytes-from (recordLength trace) trace bytes);
+          small = λ bytes. lists .small (below-from 256 (recordLength trace) trace bytes);
           end = λ hub packets.
               ap (λ (course : Course). course .1) (same-course (length trace) (suc (length trace)) true hub packets trace (omega arith) (omega arith))
               ∙ rw (ne-eqb (length trace) 0 (λ z. omega arith), first, p) (lists .same made packets);

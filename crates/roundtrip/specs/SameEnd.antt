@@ -3,17 +3,14 @@
 use mathlib.Core.Path.{_≡_}
 use mathlib.Core.Bool.{true}
 use mathlib.Core.List.{List}
-use Prim.Native.Nat.{ℕ, _≤_, _<_}
-use lib.ListN.{length, getD}
+use Prim.Native.Nat.{ℕ, _≤_}
+use lib.ListN.{length}
 use Rattle.laws.specs.Reply.{given}
+use Rattle.laws.specs.Elements.{AreBytes}
 use Rattle.trace.specs.Records.{hubRecord, recordOf}
 use Rattle.script.specs.Reading.{taken, scriptTrace}
 use Rattle.listing.specs.Listing.{traceText}
 use Rattle.playback.specs.Playing.{endHub}
-
--- every byte of a file is below 256
-abbrev pub AreBytes : List ℕ → Type 0
-AreBytes file = (i : ℕ) → getD file i 0 < 256
 
 -- The text is read again with an address, into any buffer that has room for its trace, and what it makes plays to the same end.
 pub record PlaysAlike (address : ℕ) (trace text : List ℕ) : Type 0 where

@@ -1,4 +1,4 @@
--- `exports::loopcinder_pack_raw12` meets its contract: the number of what `csi2` answers, and its buffer.
+-- `exports::loopcinder_pack_raw12` meets its contract: the number of what `packing` answers, and its buffer.
 -- Assumes nothing.
 use borrow.Author.Needs.{needs}
 use Rattle.exports.proofs.loopcinder_pack_raw12.Statement.{statement}

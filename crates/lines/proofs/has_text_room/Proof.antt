@@ -4,7 +4,7 @@ use mathlib.Core.Path.{sym}
 use Prim.Native.Nat.{_+_}
 use native.Mathlib.Omega.{arith}
 use borrow.Author.Tests.{lt-leb}
-use Rattle.csi2.proofs.WriterLaws.{room-test}
+use Rattle.laws.proofs.Buffers.{room-test}
 use Rattle.lines.proofs.has_text_room.Statement.{statement}
 use Rattle.lines.proofs.has_text_room.Tie as tie
 

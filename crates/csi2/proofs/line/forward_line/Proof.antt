@@ -2,7 +2,7 @@
 -- Assumes nothing.
 use mathlib.Core.Path.{sym, _∙_}
 use borrow.Author.Tests.{not-true, not-false}
-use Rattle.csi2.proofs.CheckLaws.{fit-allowed}
+use Rattle.packing.proofs.CheckLaws.{fit-allowed}
 use Rattle.csi2.proofs.WriterLaws.{forward-refused, forward-checked, forward-dropped, forward-sent}
 use borrow.Author.Needs.{needs}
 use Rattle.csi2.proofs.line.forward_line.Statement.{statement}
@@ -25,14 +25,14 @@ returns c =
     let t = c .before in
     let k = t .before .before in
     let x = k .before .before .before .args in
-    forward-dropped (x .format) (x .pixels .now) (x .identifier) (x .buf .now) (x .place) (sym (k .check-pixels .ensures) ∙ t .enum-told3 .given .1) (x .forwarded) (not-true (x .forwarded) (c .if1 .taken))
+    forward-dropped (x .format) (x .pixels .now) (x .identifier) (x .buf .now) (x .place) (sym (k .check-pixels .ensures .0) ∙ t .enum-told3 .given .1) (x .forwarded) (not-true (x .forwarded) (c .if1 .taken))
 
 write-packet-requires : tie.Need-write-packet-requires
 write-packet-requires c κs =
     let t = c .before .before in
     let k = t .before .before in
     let x = k .before .before .before .args in
-    fit-allowed (x .format) (x .pixels .now) (sym (k .check-pixels .ensures) ∙ t .enum-told3 .given .1)
+    fit-allowed (x .format) (x .pixels .now) (sym (k .check-pixels .ensures .0) ∙ t .enum-told3 .given .1)
 
 enum-told-4 : tie.Need-enum-told-4
 enum-told-4 c = search needs
@@ -48,14 +48,14 @@ returns-2 c =
     let k = c .before .before in
     let x = k .before .before .before .args in
     forward-refused (x .format) (x .pixels .now) (x .identifier) (x .buf .now) (x .place) (x .forwarded) 5
-    (forward-checked (x .format) (x .pixels .now) (x .identifier) (x .buf .now) (x .place) (sym (k .check-pixels .ensures) ∙ c .enum-told .given .1) (x .forwarded))
+    (forward-checked (x .format) (x .pixels .now) (x .identifier) (x .buf .now) (x .place) (sym (k .check-pixels .ensures .0) ∙ c .enum-told .given .1) (x .forwarded))
 
 returns-3 : tie.Need-returns-3
 returns-3 c =
     let k = c .before .before in
     let x = k .before .before .before .args in
     forward-refused (x .format) (x .pixels .now) (x .identifier) (x .buf .now) (x .place) (x .forwarded) 6
-    (forward-checked (x .format) (x .pixels .now) (x .identifier) (x .buf .now) (x .place) (sym (k .check-pixels .ensures) ∙ c .enum-told2 .given .1) (x .forwarded))
+    (forward-checked (x .format) (x .pixels .now) (x .identifier) (x .buf .now) (x .place) (sym (k .check-pixels .ensures .0) ∙ c .enum-told2 .given .1) (x .forwarded))
 
 same-length : tie.Need-same-length
 same-length c = search needs
@@ -67,7 +67,7 @@ returns-4 c =
     let t = f .before in
     let k = t .before .before in
     let x = k .before .before .before .args in
-    forward-sent (x .format) (x .pixels .now) (x .identifier) (x .buf .now) (x .place) (sym (k .check-pixels .ensures) ∙ t .enum-told3 .given .1) (x .forwarded) (not-false (x .forwarded) (f .if1 .left))
+    forward-sent (x .format) (x .pixels .now) (x .identifier) (x .buf .now) (x .place) (sym (k .check-pixels .ensures .0) ∙ t .enum-told3 .given .1) (x .forwarded) (not-false (x .forwarded) (f .if1 .left))
     (c .enum-told4 .given .1) (w .write-packet .ensures .0) (w .write-packet .ensures .1)
 
 same-length-2 : tie.Need-same-length-2
@@ -80,7 +80,7 @@ returns-5 c =
     let t = f .before in
     let k = t .before .before in
     let x = k .before .before .before .args in
-    forward-sent (x .format) (x .pixels .now) (x .identifier) (x .buf .now) (x .place) (sym (k .check-pixels .ensures) ∙ t .enum-told3 .given .1) (x .forwarded) (not-false (x .forwarded) (f .if1 .left))
+    forward-sent (x .format) (x .pixels .now) (x .identifier) (x .buf .now) (x .place) (sym (k .check-pixels .ensures .0) ∙ t .enum-told3 .given .1) (x .forwarded) (not-false (x .forwarded) (f .if1 .left))
     (c .enum-told5 .given .1) (w .write-packet .ensures .0) (w .write-packet .ensures .1)
 
 same-length-3 : tie.Need-same-length-3
@@ -93,7 +93,7 @@ returns-6 c =
     let t = f .before in
     let k = t .before .before in
     let x = k .before .before .before .args in
-    forward-sent (x .format) (x .pixels .now) (x .identifier) (x .buf .now) (x .place) (sym (k .check-pixels .ensures) ∙ t .enum-told3 .given .1) (x .forwarded) (not-false (x .forwarded) (f .if1 .left))
+    forward-sent (x .format) (x .pixels .now) (x .identifier) (x .buf .now) (x .place) (sym (k .check-pixels .ensures .0) ∙ t .enum-told3 .given .1) (x .forwarded) (not-false (x .forwarded) (f .if1 .left))
     (c .before .bytes .given .1) (w .write-packet .ensures .0) (w .write-packet .ensures .1)
 
 pub forward-line-spec : {M : Type 1} → statement M

@@ -1,25 +1,33 @@
 -- `csi2::line::put_packet` meets its contract: the header, the payload and the checksum, one behind the other.
 -- Assumes nothing.
 use mathlib.Core.Path.{sym, _∙_}
-use Rattle.csi2.specs.Raw.{payloadOf}
-use Rattle.csi2.proofs.RawLaws.{length-payload}
+use lib.ListN.{length}
+use Rattle.packing.specs.Raw.{payloadOf}
+use Rattle.packing.proofs.RawLaws.{length-payload, payload-small, payload-packed}
 use Rattle.csi2.proofs.WriterLaws.{packet-parts}
 use borrow.Author.Needs.{needs}
 use native.Mathlib.Omega.{arith}
 use Rattle.csi2.proofs.line.put_packet.Statement.{statement}
 use Rattle.csi2.proofs.line.put_packet.Tie as tie
 
+cast-payload-length : tie.Need-cast-payload-length
+cast-payload-length c = search needs
+
 payload-length-requires : tie.Need-payload-length-requires
 payload-length-requires c κs = search needs
 
 cast-put-header : tie.Need-cast-put-header
-cast-put-header c = search needs
+cast-put-header c =
+    let n = c .before in
+    let s = n .before .before .before in
+    let h = payload-small (s .args .format) (length (s .args .pixels .now)) (s .pre .0) in
+    omega (arith, n .payload-length .ensures)
 
 put-header-requires : tie.Need-put-header-requires
 put-header-requires c κs = search needs
 
-pack-at-requires : tie.Need-pack-at-requires
-pack-at-requires c κs = search needs
+pack-groups-requires : tie.Need-pack-groups-requires
+pack-groups-requires c κs = search needs
 
 put-checksum-requires : tie.Need-put-checksum-requires
 put-checksum-requires c κs = search needs
@@ -35,18 +43,20 @@ returns c =
     let n = h .before .before in
     let s = n .before .before .before in
     let x = s .args in
-    let l = length-payload (x .format) (x .pixels .now) ∙ sym (n .payload-length .ensures .0) in
+    let l = length-payload (x .format) (x .pixels .now) ∙ sym (n .payload-length .ensures) in
+    let packed = payload-packed (x .format) (x .pixels .now) (h .put-header .last .0) 4 (omega (arith, s .pre .1, h .put-header .kept .0)) (p .pack-groups .ensures) in
     packet-parts (x .part .now) _ _ _ (payloadOf (x .format) (x .pixels .now)) (x .identifier) (n .payload-length .result) l
-    (omega (arith, s .pre .1, n .payload-length .ensures .0)) (h .put-header .ensures) (p .pack-at .ensures) (u .put-checksum .ensures)
+    (omega (arith, s .pre .1, n .payload-length .ensures)) (h .put-header .ensures) packed (u .put-checksum .ensures)
 
 pub put-packet-spec : {M : Type 1} → statement M
 put-packet-spec =
     tie.close
     (tie.spec
+    cast-payload-length
     payload-length-requires
     cast-put-header
     put-header-requires
-    pack-at-requires
+    pack-groups-requires
     put-checksum-requires
     same-length
     returns)

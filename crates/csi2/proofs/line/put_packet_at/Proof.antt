@@ -3,9 +3,9 @@
 use mathlib.Core.Path.{_∙_, ap}
 use Prim.Native.Nat.{ℕ, _+_}
 use Rattle.laws.proofs.Buffers.{lent-written}
-use Rattle.csi2.specs.Raw.{payloadOf}
+use Rattle.packing.specs.Raw.{payloadOf}
 use Rattle.csi2.specs.Packets.{longPacket}
-use Rattle.csi2.proofs.RawLaws.{length-payload}
+use Rattle.packing.proofs.RawLaws.{length-payload}
 use Rattle.csi2.proofs.WriterLaws.{length-packet}
 use borrow.Author.Needs.{needs}
 use native.Mathlib.Omega.{arith}

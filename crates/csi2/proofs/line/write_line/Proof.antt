@@ -1,8 +1,9 @@
 -- `csi2::line::write_line` meets its contract: a refusal of the test, or the answer of the packet writer.
 -- Assumes nothing.
 use mathlib.Core.Path.{sym, _∙_}
-use Rattle.csi2.proofs.CheckLaws.{fit-allowed}
-use Rattle.csi2.proofs.WriterLaws.{refusal, line-checked, same-answer}
+use Rattle.packing.proofs.CheckLaws.{fit-allowed}
+use Rattle.laws.proofs.Buffers.{refusal}
+use Rattle.csi2.proofs.WriterLaws.{line-checked, same-answer}
 use borrow.Author.Needs.{needs}
 use Rattle.csi2.proofs.line.write_line.Statement.{statement}
 use Rattle.csi2.proofs.line.write_line.Tie as tie
@@ -24,7 +25,7 @@ write-packet-requires c κs =
     let t = c .before in
     let k = t .before .before in
     let x = k .before .before .before .args in
-    fit-allowed (x .format) (x .pixels .now) (sym (k .check-pixels .ensures) ∙ t .enum-told3 .given .1)
+    fit-allowed (x .format) (x .pixels .now) (sym (k .check-pixels .ensures .0) ∙ t .enum-told3 .given .1)
 
 enum-told-4 : tie.Need-enum-told-4
 enum-told-4 c = search needs
@@ -40,14 +41,14 @@ returns c =
     let k = c .before .before in
     let x = k .before .before .before .args in
     refusal (x .buf .now) (x .place) 5
-    (line-checked (x .format) (x .pixels .now) (x .identifier) (x .buf .now) (x .place) (sym (k .check-pixels .ensures) ∙ c .enum-told .given .1))
+    (line-checked (x .format) (x .pixels .now) (x .identifier) (x .buf .now) (x .place) (sym (k .check-pixels .ensures .0) ∙ c .enum-told .given .1))
 
 returns-2 : tie.Need-returns-2
 returns-2 c =
     let k = c .before .before in
     let x = k .before .before .before .args in
     refusal (x .buf .now) (x .place) 6
-    (line-checked (x .format) (x .pixels .now) (x .identifier) (x .buf .now) (x .place) (sym (k .check-pixels .ensures) ∙ c .enum-told2 .given .1))
+    (line-checked (x .format) (x .pixels .now) (x .identifier) (x .buf .now) (x .place) (sym (k .check-pixels .ensures .0) ∙ c .enum-told2 .given .1))
 
 same-length : tie.Need-same-length
 same-length c = search needs
@@ -59,7 +60,7 @@ returns-3 c =
     let k = t .before .before in
     let x = k .before .before .before .args in
     same-answer (x .buf .now) (x .place)
-    (line-checked (x .format) (x .pixels .now) (x .identifier) (x .buf .now) (x .place) (sym (k .check-pixels .ensures) ∙ t .enum-told3 .given .1))
+    (line-checked (x .format) (x .pixels .now) (x .identifier) (x .buf .now) (x .place) (sym (k .check-pixels .ensures .0) ∙ t .enum-told3 .given .1))
     (c .enum-told4 .given .1) (w .write-packet .ensures .0) (w .write-packet .ensures .1)
 
 same-length-2 : tie.Need-same-length-2
@@ -72,7 +73,7 @@ returns-4 c =
     let k = t .before .before in
     let x = k .before .before .before .args in
     same-answer (x .buf .now) (x .place)
-    (line-checked (x .format) (x .pixels .now) (x .identifier) (x .buf .now) (x .place) (sym (k .check-pixels .ensures) ∙ t .enum-told3 .given .1))
+    (line-checked (x .format) (x .pixels .now) (x .identifier) (x .buf .now) (x .place) (sym (k .check-pixels .ensures .0) ∙ t .enum-told3 .given .1))
     (c .enum-told5 .given .1) (w .write-packet .ensures .0) (w .write-packet .ensures .1)
 
 same-length-3 : tie.Need-same-length-3
@@ -85,7 +86,7 @@ returns-5 c =
     let k = t .before .before in
     let x = k .before .before .before .args in
     same-answer (x .buf .now) (x .place)
-    (line-checked (x .format) (x .pixels .now) (x .identifier) (x .buf .now) (x .place) (sym (k .check-pixels .ensures) ∙ t .enum-told3 .given .1))
+    (line-checked (x .format) (x .pixels .now) (x .identifier) (x .buf .now) (x .place) (sym (k .check-pixels .ensures .0) ∙ t .enum-told3 .given .1))
     (c .before .bytes .given .1) (w .write-packet .ensures .0) (w .write-packet .ensures .1)
 
 pub write-line-spec : {M : Type 1} → statement M

@@ -5,7 +5,8 @@ use Prim.Native.Nat.{ℕ}
 use borrow.Author.Tests.{leb-true, not-true, not-false}
 use Rattle.laws.specs.Buffers.{written}
 use Rattle.csi2.specs.Packets.{headerBytes}
-use Rattle.csi2.proofs.WriterLaws.{refusal, writing, short-refused, short-given}
+use Rattle.laws.proofs.Buffers.{refusal, writing}
+use Rattle.csi2.proofs.WriterLaws.{short-refused, short-given}
 use borrow.Author.Needs.{needs}
 use Rattle.csi2.proofs.short.write_short.Statement.{statement}
 use Rattle.csi2.proofs.short.write_short.Tie as tie

@@ -1,0 +1,4 @@
+pub mod Raw
+pub mod Packing
+pub mod Lengths
+pub mod Checking
