@@ -1,4 +1,4 @@
-// Functions of `ecc`, `crc`, `packing`, `csi2` and `reader` for programs in C and Rust. An answer that may be a refusal is one number (specs/Numbers.antt).
+// Functions of `ecc`, `crc`, `packing`, `unpacking`, `csi2` and `reader` for programs in C and Rust. An answer that may be a refusal is one number (specs/Numbers.antt).
 // A slice is passed as its address and its length. The caller answers for both, and that no other slice overlaps a `&mut` one.
 ghost use mathlib.Core.Path.{_≡_};
 ghost use lib.ListN.{length};
@@ -9,6 +9,7 @@ ghost use Rattle.ecc.specs.CheckBytes.{checkByte};
 ghost use Rattle.ecc.specs.HeaderCorrection.{correctionOf};
 ghost use Rattle.crc.specs.Checksum.{crcFrom, crcOf};
 ghost use Rattle.packing.specs.Packing.{packLineReply};
+ghost use Rattle.unpacking.specs.Unpacking.{unpackReply};
 ghost use Rattle.csi2.specs.Writers.{lineReply};
 ghost use Rattle.reader.specs.Reader.{readPacket, payloadRead};
 ghost use Rattle.exports.specs.Numbers.{replyNumber, correctionNumber, packetNumber};
@@ -65,6 +66,15 @@ pub extern "C" fn loopcinder_pack_raw12(pixels: &[u16], buf: &mut [u8], place: u
     ensures { λ _. ⌜ now (buf .exit) ≡ afterReply (now (buf .entry)) place (packLineReply Raw12 (now (pixels .entry)) (length (now (buf .entry))) place) ⌝ }
 {
     numbers::of_pack_answer(packing::pack_line(Format::Raw12, pixels, buf, place))
+}
+
+// Unpacks a payload whose pixels have `bits` bits, to the start of `pixels`; or refuses it and writes nothing. How many pixels were unpacked.
+#[no_mangle]
+pub extern "C" fn loopcinder_unpack(bits: u8, payload: &[u8], pixels: &mut [u16]) -> u64
+    ensures { λ r. ⌜ r ≡ replyNumber (countOf (unpackReply bits (now (payload .entry)) (length (now (pixels .entry))))) ⌝ }
+    ensures { λ _. ⌜ now (pixels .exit) ≡ afterReply (now (pixels .entry)) 0 (unpackReply bits (now (payload .entry)) (length (now (pixels .entry)))) ⌝ }
+{
+    numbers::of_unpack_answer(unpacking::unpack_line(bits, payload, pixels))
 }
 
 // Writes a line of RAW10 as a packet from the place; or refuses it and writes nothing. How many bytes were written.

@@ -1,9 +1,10 @@
-// The answers of `ecc`, `packing`, `csi2` and `reader` as numbers of 64 bits.
+// The answers of `ecc`, `packing`, `unpacking`, `csi2` and `reader` as numbers of 64 bits.
 ghost use mathlib.Core.Path.{_≡_};
 ghost use Prim.Native.Nat.{_*_, _^_};
 ghost use Rattle.laws.specs.Reply.{onReply};
 ghost use Rattle.ecc.specs.HeaderCorrection.{correctionReply};
 ghost use Rattle.packing.specs.Packing.{packAnswerReply};
+ghost use Rattle.unpacking.specs.Unpacking.{unpackAnswerReply};
 ghost use Rattle.csi2.specs.Writers.{lineAnswerReply};
 ghost use Rattle.reader.specs.Reader.{packetReadReply};
 ghost use Rattle.exports.specs.Numbers.{replyNumber, correctedNumber, correctionNumber, packetNumber};
@@ -12,6 +13,7 @@ use ecc::Corrected;
 use ecc::Correction;
 use packing::PackAnswer;
 use reader::PacketRead;
+use unpacking::UnpackAnswer;
 
 // A refusal: its number in the top byte.
 fn of_refusal(number: u8) -> u64
@@ -51,6 +53,18 @@ pub(crate) fn of_pack_answer(answer: PackAnswer) -> u64
         PackAnswer::PixelTooLarge => of_refusal(6),
         PackAnswer::NoRoom => of_refusal(8),
         PackAnswer::Packed(bytes) => bytes as u64,
+    }
+}
+
+// How many pixels were unpacked.
+pub(crate) fn of_unpack_answer(answer: UnpackAnswer) -> u64
+    ensures { λ r. ⌜ r ≡ replyNumber (unpackAnswerReply answer) ⌝ }
+{
+    match answer {
+        UnpackAnswer::UnknownFormat => of_refusal(3),
+        UnpackAnswer::PayloadNotAllowed => of_refusal(17),
+        UnpackAnswer::NoRoom => of_refusal(8),
+        UnpackAnswer::Unpacked(pixels) => pixels as u64,
     }
 }
 

@@ -1,4 +1,4 @@
--- A lent buffer after some bytes were written into it from a place.
+-- A lent buffer after some bytes, or the pixels of L3, were written into it from a place.
 -- Assumes nothing.
 use mathlib.Core.Bool.{Bool, cond}
 use mathlib.Core.List.{List, _++_}
@@ -15,7 +15,7 @@ written buffer place bytes = take place buffer ++ bytes ++ drop (place + length 
 abbrev pub hasRoom : ℕ → ℕ → ℕ → Bool
 hasRoom size place needed = leb (place + needed) size
 
--- the bytes, if they have room in a buffer of that size; otherwise 8: "fewer bytes free from the place than the packet needs, or the place is beyond the buffer"
+-- the bytes, if they have room in a buffer of that size; otherwise 8: "fewer bytes free from the place than the packet needs, or the place is beyond the buffer"; for pixels, L3: "8 where the slice is too short"
 unfoldable pub ifRoom : ℕ → ℕ → List ℕ → Reply (List ℕ)
 ifRoom size place bytes = cond (hasRoom size place (length bytes)) (given bytes) (refused 8)
 

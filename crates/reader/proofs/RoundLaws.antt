@@ -22,8 +22,10 @@ use Rattle.packing.specs.Raw.{payloadOf, widthAllowed, allFit}
 use Rattle.csi2.specs.Packets.{isShort, littleEndian, headerBytes, syncIdentifier, longPacket}
 use Rattle.csi2.specs.Writers.{shortReply, packetReply, lineReply, lineDropped, lineSent, sentReply, forwardReply}
 use Rattle.reader.specs.Reader.{checksumMatches, readBody, readPacket, payloadIn}
-use Rattle.reader.specs.RoundTrip.{ReadsWith, flippedIn, ReadsAs, LineReadsBack, ForwardedReadsBack, ShortReadsBack}
+use Rattle.reader.specs.RoundTrip.{ReadsWith, flippedIn, ReadsAs, LineReadsBack, LineUnpacks, ForwardedReadsBack, ForwardedUnpacks, ShortReadsBack}
 use Rattle.packing.proofs.RawLaws.{length-payload, payload-small}
+use Rattle.unpacking.specs.Unpacking.{unpackReply}
+use Rattle.unpacking.proofs.RoundLaws.{payload-unpacks}
 use Rattle.packing.proofs.CheckLaws.{allowed-small}
 use Rattle.reader.proofs.ReaderLaws.{short-accepted, body-whole}
 use Rattle.reader.proofs.FlippedLaws.{packetOf, written-read, drop-flipped, flipped-read}
@@ -95,8 +97,8 @@ from-place packet bytes buffer payload place identifier n e room reads = rw (sym
 -- what an accepted line tells of the tests that the writer makes
 line-by : (width fit short room : Bool) (packet bytes : List ℕ)
     → cond width (cond fit (cond short (refused 7) (cond room (given packet) (refused 8))) (refused 6)) (refused 5) ≡ given bytes
-    → (width ≡ true) × (short ≡ false) × (room ≡ true) × (packet ≡ bytes)
-line-by true true false true packet bytes e = (refl, refl, refl, cc)
+    → (width ≡ true) × (short ≡ false) × (room ≡ true) × (packet ≡ bytes) × (fit ≡ true)
+line-by true true false true packet bytes e = (refl, refl, refl, cc, refl)
 line-by true true false false packet bytes e = let z : _≡_ {A = ℕ} 0 1 = cc in absurd (omega arith)
 line-by true true true room packet bytes e = let z : _≡_ {A = ℕ} 0 1 = cc in absurd (omega arith)
 line-by true false short room packet bytes e = let z : _≡_ {A = ℕ} 0 1 = cc in absurd (omega arith)
@@ -115,6 +117,16 @@ line-reads-back format pixels identifier place buffer bytes hi e =
     from-place packet bytes buffer payload place identifier (length payload) (by .3) (leb-true (place + length packet) (length buffer) (by .2))
     (long-reads payload (drop (place + length packet) buffer) identifier hi (omega arith) (by .1))
 
+-- and its payload, as it is read, is unpacked to its pixels
+pub line-unpacks : LineUnpacks
+unfolding lineReply packetReply ifRoom
+line-unpacks bits format pixels identifier place size buffer bytes known hi e =
+    let packet = longPacket identifier (payloadOf format pixels) in
+    let by =
+    line-by (widthAllowed format (length pixels)) (allFit format pixels) (isShort identifier) (leb (place + length packet) (length buffer)) packet bytes e in
+    ap (λ (l : List ℕ). unpackReply bits l size) (line-reads-back format pixels identifier place buffer bytes hi e .0 .1)
+    ∙ payload-unpacks bits format pixels size known (by .0) (by .4)
+
 -- a line that is sent is one that the writer accepts
 sent-by : (width fit forwarded : Bool) (packet : Reply (List ℕ)) (bytes : List ℕ)
     → cond width (cond fit (cond forwarded (sentReply packet) (given lineDropped)) (refused 6)) (refused 5) ≡ given (lineSent bytes)
@@ -129,6 +141,12 @@ pub forwarded-reads-back : ForwardedReadsBack
 unfolding lineReply forwardReply
 forwarded-reads-back format pixels forwarded identifier place buffer bytes hi e =
     line-reads-back format pixels identifier place buffer bytes hi
+    (sent-by (widthAllowed format (length pixels)) (allFit format pixels) forwarded (packetReply format pixels identifier (length buffer) place) bytes e)
+
+pub forwarded-unpacks : ForwardedUnpacks
+unfolding lineReply forwardReply
+forwarded-unpacks bits format pixels forwarded identifier place size buffer bytes known hi e =
+    line-unpacks bits format pixels identifier place size buffer bytes known hi
     (sent-by (widthAllowed format (length pixels)) (allFit format pixels) forwarded (packetReply format pixels identifier (length buffer) place) bytes e)
 
 -- an accepted frame start or end had room, and is its header

@@ -7,10 +7,12 @@ use Prim.Native.Nat.{ℕ, _/_, _%_, _^_, _<_}
 use lib.Bits.{bitXor}
 use lib.ListN.{length, getD, set, drop}
 use Rattle.laws.specs.Reply.{given}
-use Rattle.laws.specs.Buffers.{written}
+use Rattle.laws.specs.Buffers.{written, ifRoom}
 use Rattle.formats.specs.declared.Format.{Format}
+use Rattle.formats.specs.Formats.{formatOf}
 use Rattle.ecc.specs.declared.Corrected.{Corrected}
 use Rattle.ecc.specs.declared.Corrected.the-variants.{Nothing, HeaderBit}
+use Rattle.unpacking.specs.Unpacking.{unpackReply}
 use Rattle.csi2.specs.declared.short.FrameSync.{FrameSync}
 use Rattle.packing.specs.Raw.{payloadOf}
 use Rattle.csi2.specs.Packets.{syncIdentifier}
@@ -38,12 +40,25 @@ LineReadsBack =
     → lineReply format pixels identifier (length buffer) place ≡ given bytes
     → ReadsAs (drop place (written buffer place bytes)) identifier (length (payloadOf format pixels)) (payloadOf format pixels)
 
+-- L3: "Unpacking what the twin packed gives the pixels": the payload that is read is unpacked to the line, into every slice that has room for it
+abbrev pub LineUnpacks : Type 0
+LineUnpacks =
+    (bits : ℕ) (format : Format) (pixels : List ℕ) (identifier place size : ℕ) (buffer bytes : List ℕ) → formatOf bits ≡ given format → identifier < 256
+    → lineReply format pixels identifier (length buffer) place ≡ given bytes
+    → unpackReply bits (payloadRead (drop place (written buffer place bytes))) size ≡ ifRoom size 0 pixels
+
 -- the same for a line that may have to be dropped, and is sent
 abbrev pub ForwardedReadsBack : Type 0
 ForwardedReadsBack =
     (format : Format) (pixels : List ℕ) (forwarded : Bool) (identifier place : ℕ) (buffer bytes : List ℕ) → identifier < 256
     → forwardReply format pixels forwarded identifier (length buffer) place ≡ given (lineSent bytes)
     → ReadsAs (drop place (written buffer place bytes)) identifier (length (payloadOf format pixels)) (payloadOf format pixels)
+
+abbrev pub ForwardedUnpacks : Type 0
+ForwardedUnpacks =
+    (bits : ℕ) (format : Format) (pixels : List ℕ) (forwarded : Bool) (identifier place size : ℕ) (buffer bytes : List ℕ) → formatOf bits ≡ given format
+    → identifier < 256 → forwardReply format pixels forwarded identifier (length buffer) place ≡ given (lineSent bytes)
+    → unpackReply bits (payloadRead (drop place (written buffer place bytes))) size ≡ ifRoom size 0 pixels
 
 -- for every frame start and end
 abbrev pub ShortReadsBack : Type 0

@@ -1,0 +1,4 @@
+pub mod PixelLaws
+pub mod StoreLaws
+pub mod AnswerLaws
+pub mod RoundLaws

@@ -1,0 +1,4 @@
+pub mod Pixels
+pub mod Words
+pub mod Unpacking
+pub mod RoundTrip
