@@ -1,6 +1,6 @@
-//! The worked cases of document 01, the data sheet's table of SCL times and the standard's checksum
-//! vectors, answered by this package's own model and written as the proved program `cases` writes
-//! them.
+//! The worked cases of document 01, the data sheet's table of SCL times, the standard's checksum
+//! vectors and the unpacking of request L3, answered by this package's own model and written as the
+//! proved program `cases` writes them.
 
 use crate::checksum;
 use crate::frames::{Format, Outcome};
@@ -30,6 +30,8 @@ pub fn report() -> String {
     headers(&mut lines);
     payloads(&mut lines);
     borders(&mut lines);
+    unpacking(&mut lines);
+    unpacking_borders(&mut lines);
     frame_numbers(&mut lines);
     lines.iter().map(|line| format!("{line}\n")).collect()
 }
@@ -190,6 +192,48 @@ fn borders(lines: &mut Vec<String>) {
             "{name}: {}",
             line(format, identifier, width, pixel)
         ));
+    }
+}
+
+/// Into six pixels that held FFFF each.
+fn unpacking(lines: &mut Vec<String>) {
+    let cases: [(&[u8], u8); 4] = [
+        (&[0xFF, 0x00, 0x00, 0x00, 0x43], 10),
+        (&[0xAB, 0x12, 0x3C], 12),
+        (&[0xAB, 0x12, 0x3C], 11),
+        (&[0xAB, 0x12, 0x3C], 10),
+    ];
+    for (payload, bits) in cases {
+        let mut six = [0xFFFF; 6];
+        let answer = match pixels::unpack(bits, payload, &mut six) {
+            Err(refusal) => format!("! {}", refusal.number()),
+            Ok(count) => format!("{count} pixels, with the rest of 6:{}", words(&six)),
+        };
+        let payload = hex(payload);
+        lines.push(format!("unpacking {payload} as {bits} bits: {answer}"));
+    }
+}
+
+/// Each word behind a space.
+fn words(words: &[u16]) -> String {
+    words.iter().map(|word| format!(" {word:04X}")).collect()
+}
+
+fn unpacking_borders(lines: &mut Vec<String>) {
+    let cases = [
+        ("0 bytes as 12 bits", 0, 12, 4096),
+        ("5120 bytes as 10 bits", 5120, 10, 4096),
+        ("5125 bytes as 10 bits", 5125, 10, 4096),
+        ("6144 bytes as 12 bits", 6144, 12, 4096),
+        ("6147 bytes as 12 bits", 6147, 12, 4096),
+        ("6144 bytes as 12 bits into 4095", 6144, 12, 4095),
+    ];
+    for (name, length, bits, size) in cases {
+        let answer = match pixels::unpack(bits, &vec![0; length], &mut vec![0; size]) {
+            Err(refusal) => format!("! {}", refusal.number()),
+            Ok(count) => format!("{count} pixels"),
+        };
+        lines.push(format!("unpacking {name}: {answer}"));
     }
 }
 

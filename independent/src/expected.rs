@@ -44,6 +44,11 @@ pub fn pack(format: Format, pixels: &[u16], buffer: &mut [u8], place: usize) -> 
     counted(packed)
 }
 
+/// Refusals in order: 3, 17, 8.
+pub fn unpack(bits: u8, payload: &[u8], pixels: &mut [u16]) -> u64 {
+    counted(pixels::unpack(bits, payload, pixels))
+}
+
 /// Refusals in order: 5, 6, 7, 8.
 pub fn write_line(
     format: Format,

@@ -1,4 +1,4 @@
-//! A second opinion on the DS90UB964-Q1 hub: the rules of document 01 and of requests L1 and L2
+//! A second opinion on the DS90UB964-Q1 hub: the rules of document 01 and of requests L1, L2 and L3
 //! written anew, seeded generators of traces and scripts, and a comparison of any trace player and
 //! of any converter of scripts with the ones written here.
 

@@ -24,6 +24,13 @@ unsafe extern "C" {
         size: usize,
         place: usize,
     ) -> u64;
+    fn loopcinder_unpack(
+        bits: u8,
+        payload: *const u8,
+        length: usize,
+        pixels: *mut u16,
+        size: usize,
+    ) -> u64;
     fn loopcinder_write_raw10_line(
         pixels: *const u16,
         width: usize,
@@ -87,6 +94,15 @@ pub fn pack_raw12(pixels: &[u16], buf: &mut [u8], place: usize) -> u64 {
     let (from, width) = (pixels.as_ptr(), pixels.len());
     // SAFETY: as for `pack_raw10`.
     unsafe { loopcinder_pack_raw12(from, width, buf.as_mut_ptr(), buf.len(), place) }
+}
+
+/// Unpacks a payload of pixels of so many bits; the pixels put at the start of the slice, or a
+/// refusal.
+#[inline]
+pub fn unpack(bits: u8, payload: &[u8], pixels: &mut [u16]) -> u64 {
+    let (from, length) = (payload.as_ptr(), payload.len());
+    // SAFETY: as for `pack_raw10`.
+    unsafe { loopcinder_unpack(bits, from, length, pixels.as_mut_ptr(), pixels.len()) }
 }
 
 /// Writes a RAW10 line as a packet from the place; the bytes written, or a refusal.

@@ -1,4 +1,4 @@
-//! The refusals of document 01 and of request L1, and their numbers.
+//! The refusals of document 01 and of requests L1 and L3, and their numbers.
 
 #[derive(Clone, Copy, Debug, PartialEq, Eq)]
 #[repr(u8)]
@@ -19,6 +19,7 @@ pub enum Refusal {
     LineShape = 14,
     LineTooLong = 15,
     NoTextForm = 16,
+    PayloadNotAllowed = 17,
 }
 
 impl Refusal {

@@ -4,7 +4,7 @@ use independent::checksum::{bit_by_bit, by_table};
 use independent::frames::Format;
 use independent::header::{check_byte, check_byte_counted, header};
 use independent::packet::{payload, read, write_line, write_short};
-use independent::pixels::{pack, payload_length};
+use independent::pixels::{pack, payload_length, unpack};
 use independent::refusal::Refusal;
 use independent::rng::Rng;
 
@@ -148,9 +148,9 @@ fn short_packets_come_back() {
 fn lines_come_back() {
     let mut rng = Rng::new(4);
     for turn in 0..400 {
-        let (format, step, mask) = match turn % 2 {
-            0 => (Format::Raw10, 4, 0x3FF),
-            _ => (Format::Raw12, 2, 0xFFF),
+        let (bits, format, step, mask) = match turn % 2 {
+            0 => (10, Format::Raw10, 4, 0x3FF),
+            _ => (12, Format::Raw12, 2, 0xFFF),
         };
         let width = step * rng.between(1, 4096 / step) as usize as u64;
         let pixels: Vec<u16> = (0..width).map(|_| rng.word() & mask).collect();
@@ -162,22 +162,8 @@ fn lines_come_back() {
         assert!(bytes[after..].iter().all(|&byte| byte == 0xEE));
         let packet = read(&bytes[place..]).unwrap();
         assert_eq!(packet.length, written.length);
-        assert_eq!(unpacked(format, packet.payload), pixels);
+        let mut unpacked = vec![0xEEEE; pixels.len()];
+        let count = unpack(bits, packet.payload, &mut unpacked);
+        assert_eq!((count, unpacked), (Ok(pixels.len()), pixels));
     }
-}
-
-fn unpacked(format: Format, payload: &[u8]) -> Vec<u16> {
-    let (group, bits) = match format {
-        Format::Raw10 => (5, 2),
-        Format::Raw12 => (3, 4),
-    };
-    let mut pixels = Vec::new();
-    for bytes in payload.chunks(group) {
-        let low = u16::from(bytes[group - 1]);
-        for (i, &upper) in bytes[..group - 1].iter().enumerate() {
-            let rest = low >> (bits * i) & ((1 << bits) - 1);
-            pixels.push(u16::from(upper) << bits | rest);
-        }
-    }
-    pixels
 }

@@ -2,21 +2,21 @@
 //! the buffer.
 #![cfg(feature = "proved")]
 
+mod lines;
+
 use independent::expected;
 use independent::frames::Format;
 use independent::pixels::payload_length;
 use independent::proved;
 use independent::refusal::Refusal;
 use independent::rng::Rng;
+use lines::{assert_seen, good_pixels, proved_pack, Seen};
 
 const FORMATS: [Format; 2] = [Format::Raw10, Format::Raw12];
 const WIDTHS: [usize; 22] = [
     0, 1, 2, 3, 4, 5, 6, 7, 8, 10, 12, 20, 62, 64, 101, 640, 1282, 4092, 4094, 4096, 4097, 4100,
 ];
 const RANDOM_CASES: usize = 30_000;
-
-/// How often each number stood in the top byte of an answer: 0 for none refused.
-type Seen = [u64; 16];
 
 /// A line, the buffer that it is to go to, and the place.
 struct Case {
@@ -33,10 +33,7 @@ impl Case {
         let (format, pixels, place) = (self.format, self.pixels.as_slice(), self.place);
         self.compare_one(
             packing,
-            |buf| match format {
-                Format::Raw10 => proved::pack_raw10(pixels, buf, place),
-                Format::Raw12 => proved::pack_raw12(pixels, buf, place),
-            },
+            |buf| proved_pack(format, pixels, buf, place),
             |buf| expected::pack(format, pixels, buf, place),
         );
         let identifier = self.identifier;
@@ -75,12 +72,6 @@ impl Case {
             self.buffer.len()
         )
     }
-}
-
-fn good_pixels(rng: &mut Rng, format: Format, width: usize) -> Vec<u16> {
-    (0..width)
-        .map(|_| rng.word() & format.largest_pixel())
-        .collect()
 }
 
 /// Good pixels, or all of one value at the border, or one that does not fit.
@@ -135,19 +126,6 @@ fn random_case(rng: &mut Rng) -> Case {
         buffer,
         place,
     }
-}
-
-fn assert_seen(seen: &Seen, refusals: &[Refusal], least: u64) {
-    for refusal in refusals {
-        let count = seen[usize::from(refusal.number())];
-        assert!(count >= least, "refusal {refusal:?} seen {count} times");
-    }
-    let known: u64 = refusals
-        .iter()
-        .map(|refusal| seen[usize::from(refusal.number())])
-        .sum();
-    assert!(seen[0] >= least, "{} lines not refused", seen[0]);
-    assert_eq!(seen.iter().sum::<u64>(), seen[0] + known);
 }
 
 #[test]

@@ -4,11 +4,11 @@ use independent::checksum::bit_by_bit;
 use independent::frames::Format;
 use independent::header::{check_byte_counted, header, repair};
 use independent::packet::{read, write_line};
-use independent::pixels::{pack, payload_length};
+use independent::pixels::{pack, payload_length, unpack as unpack_plainly};
 use independent::refusal::Refusal;
 use independent::rng::Rng;
 use independent::yardstick::{crc_folding, crc_slicing, crc_table, crc_wide};
-use independent::yardstick::{ecc, line, raw, reader};
+use independent::yardstick::{ecc, line, raw, reader, unpack};
 
 #[test]
 fn checksums() {
@@ -74,6 +74,34 @@ fn compare_packing(rng: &mut Rng, format: Format, fast: Pack, width: usize) {
     assert_eq!(fast(&pixels, short, 1), Err(Refusal::BufferTooSmall));
     pixels[rng.index(width)] = largest + 1;
     assert_eq!(fast(&pixels, &mut packed, 0), Err(Refusal::PixelTooLarge));
+}
+
+type Unpack = fn(&[u8], &mut [u16]) -> Result<usize, Refusal>;
+
+#[test]
+fn unpacking() {
+    let mut rng = Rng::new(26);
+    for length in (0..700).chain([5115, 5120, 5125, 6141, 6144, 6147, 81_925, 98_307]) {
+        let payload = rng.bytes(length);
+        compare_unpacking(10, unpack::unpack_raw10, &payload);
+        compare_unpacking(10, unpack::unpack_raw10_by_pixels, &payload);
+        compare_unpacking(12, unpack::unpack_raw12, &payload);
+        compare_unpacking(12, unpack::unpack_raw12_by_pixels, &payload);
+    }
+}
+
+/// Into slices from none to more than enough.
+fn compare_unpacking(bits: u8, fast: Unpack, payload: &[u8]) {
+    let width = match bits {
+        10 => payload.len() / 5 * 4,
+        _ => payload.len() / 3 * 2,
+    };
+    for size in [0, width.saturating_sub(1), width, width + 1, width + 50] {
+        let (mut pixels, mut expected) = (vec![0xEEEE; size], vec![0xEEEE; size]);
+        let answer = unpack_plainly(bits, payload, &mut expected);
+        assert_eq!(fast(payload, &mut pixels), answer);
+        assert_eq!(pixels, expected);
+    }
 }
 
 #[test]

@@ -1,20 +1,29 @@
-//! The contests of lines of 4,096 pixels: packed, written as packets, and read.
+//! The contests of lines of 4,096 pixels: packed, unpacked, written as packets, and read.
 
 use super::contest::Contest;
 use crate::proved;
 use crate::refusal::Refusal;
 use crate::rng::Rng;
-use crate::yardstick::{line, raw, reader};
+use crate::yardstick::{line, raw, reader, unpack};
 use std::hint::black_box;
 
 const WIDTH: usize = 4096;
+const RAW10_PAYLOAD: usize = WIDTH / 4 * 5;
+const RAW12_PAYLOAD: usize = WIDTH / 2 * 3;
 /// A RAW12 line of that width: header, payload, checksum.
-const PACKET: usize = 4 + WIDTH / 2 * 3 + 2;
+const PACKET: usize = 4 + RAW12_PAYLOAD + 2;
 /// RAW12 on virtual channel 1.
 const DATA_IDENTIFIER: u8 = 0x6C;
 
 pub fn contests() -> Vec<Contest<'static>> {
-    vec![raw10(), raw12(), raw12_line(), reading()]
+    vec![
+        raw10(),
+        raw12(),
+        raw10_unpacking(),
+        raw12_unpacking(),
+        raw12_line(),
+        reading(),
+    ]
 }
 
 fn pixels(largest: u16) -> Vec<u16> {
@@ -55,6 +64,48 @@ fn raw12() -> Contest<'static> {
 
 fn packing(largest: u16, pack: Pack) -> impl FnMut() -> Result<usize, Refusal> + 'static {
     into_buffer(pixels(largest), move |pixels, buf| pack(pixels, buf, 0))
+}
+
+fn raw10_unpacking() -> Contest<'static> {
+    let proved = |payload: &[u8], pixels: &mut [u16]| proved::unpack(10, payload, pixels);
+    Contest::new("RAW10 unpacking, 4096 pixels")
+        .way("proved", unpacking(RAW10_PAYLOAD, proved))
+        .way(
+            "pixel by pixel",
+            unpacking(RAW10_PAYLOAD, unpack::unpack_raw10_by_pixels),
+        )
+        .way(
+            "low pairs from a table",
+            unpacking(RAW10_PAYLOAD, unpack::unpack_raw10),
+        )
+}
+
+fn raw12_unpacking() -> Contest<'static> {
+    let proved = |payload: &[u8], pixels: &mut [u16]| proved::unpack(12, payload, pixels);
+    Contest::new("RAW12 unpacking, 4096 pixels")
+        .way("proved", unpacking(RAW12_PAYLOAD, proved))
+        .way(
+            "pixel by pixel",
+            unpacking(RAW12_PAYLOAD, unpack::unpack_raw12_by_pixels),
+        )
+        .way(
+            "eight pixels in a vector",
+            unpacking(RAW12_PAYLOAD, unpack::unpack_raw12),
+        )
+}
+
+/// A call that unpacks so many bytes into pixels of its own, which are looked at after it.
+fn unpacking<R>(
+    length: usize,
+    call: impl Fn(&[u8], &mut [u16]) -> R + 'static,
+) -> impl FnMut() -> R + 'static {
+    let payload = Rng::new(968).bytes(length);
+    let mut pixels = vec![0; WIDTH];
+    move || {
+        let answer = call(black_box(&payload), &mut pixels);
+        black_box(&mut pixels);
+        answer
+    }
 }
 
 fn raw12_line() -> Contest<'static> {

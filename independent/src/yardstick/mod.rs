@@ -9,3 +9,4 @@ pub mod ecc;
 pub mod line;
 pub mod raw;
 pub mod reader;
+pub mod unpack;
