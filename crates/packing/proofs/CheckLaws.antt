@@ -6,13 +6,14 @@ use mathlib.Core.List.{List, [], _∷_}
 use Prim.Native.Nat.{ℕ, suc, _+_, _^_, _≤_, _<_, _%_}
 use native.Mathlib.Numerals.{add-one}
 use native.Mathlib.Omega.{arith}
-use borrow.Author.Tests.{lt-ltb, le-ltb, le-leb, lt-leb, ltb-true, ltb-false, leb-true}
+use borrow.Author.Tests.{lt-ltb, le-ltb, le-leb, lt-leb, eq-eqb, ltb-true, ltb-false, leb-true, eqb-true}
 use lib.Bits.{bitOr, or-lt, or-add-and, and-le-l, and-le-r, or-zero-r}
 use lib.Dec.{ltb, leb, eqb}
 use lib.ListN.{length, getD, drop, drop-of-length-le}
 use lib.Pow.{pow-pos}
 use lib.Seq.{drop-cons}
 use Rattle.laws.proofs.Bitwise.{or-assoc}
+use Rattle.laws.proofs.Bools.{both}
 use Rattle.laws.specs.Reply.{Reply, refused}
 use Rattle.laws.specs.Buffers.{ifRoom}
 use Rattle.formats.specs.declared.Format.{Format}
@@ -63,14 +64,20 @@ module _ (format : Format) (width : ℕ) where
   unfolding widthAllowed
   width-inside l h = rw (le-leb 1 width l, le-leb width 4096 h)
 
-  pub allowed-small : widthAllowed format width ≡ true → width ≤ 4096
+  -- an allowed width, by what it is
+  pub width-tells : widthAllowed format width ≡ true → (1 ≤ width) × (width ≤ 4096) × (width % groupPixels format ≡ 0)
   unfolding widthAllowed
-  allowed-small e = go (leb 1 width) (leb width 4096) refl e
-    where
-      go : (a b : Bool) → leb width 4096 ≡ b → (a && b && eqb (width % groupPixels format) 0) ≡ true → width ≤ 4096
-      go true true p q = leb-true width 4096 p
-      go true false p q = let z : _≡_ {A = ℕ} 0 1 = cc in absurd (omega arith)
-      go false b p q = let z : _≡_ {A = ℕ} 0 1 = cc in absurd (omega arith)
+  width-tells e =
+      let inside = both (leb 1 width && leb width 4096) (eqb (width % groupPixels format) 0) e in
+      let ends = both (leb 1 width) (leb width 4096) (inside .0) in
+      (leb-true 1 width (ends .0), leb-true width 4096 (ends .1), eqb-true (width % groupPixels format) 0 (inside .1))
+
+  pub width-so : 1 ≤ width → width ≤ 4096 → width % groupPixels format ≡ 0 → widthAllowed format width ≡ true
+  unfolding widthAllowed
+  width-so l h m = rw (le-leb 1 width l, le-leb width 4096 h, eq-eqb (width % groupPixels format) 0 m)
+
+  pub allowed-small : widthAllowed format width ≡ true → width ≤ 4096
+  allowed-small e = width-tells e .1
 
 module _ (format : Format) (pixels : List ℕ) where
   pub check-width : widthAllowed format (length pixels) ≡ false → checkOf format pixels ≡ WidthNotAllowed

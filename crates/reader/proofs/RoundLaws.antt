@@ -12,7 +12,6 @@ use lib.Seq.{take-append-seam, getD-append-seam, getD-append-add}
 use Rattle.laws.specs.Reply.{Reply, refused, given}
 use Rattle.laws.specs.Buffers.{written, ifRoom}
 use Rattle.laws.proofs.Buffers.{drop-written}
-use Rattle.formats.specs.declared.Format.{Format}
 use Rattle.ecc.specs.declared.Corrected.{Corrected}
 use Rattle.ecc.specs.declared.Corrected.the-variants.{Nothing, HeaderBit}
 use Rattle.crc.specs.Checksum.{crcOf}

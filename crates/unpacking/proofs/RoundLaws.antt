@@ -1,9 +1,9 @@
 -- Packing and unpacking undo each other, for every line and every payload that is not refused.
 -- Assumes nothing.
-use mathlib.Core.Path.{_≡_, refl, sym, ap, ap₂, _∙_}
+use mathlib.Core.Path.{_≡_, refl, sym, ap, _∙_}
 use mathlib.Core.Bool.{Bool, true, false, cond, _&&_}
 use mathlib.Core.List.{List}
-use Prim.Native.Nat.{ℕ, _+_, _*_, _/_, _%_, _≤_}
+use Prim.Native.Nat.{ℕ, _*_, _/_, _%_, _≤_}
 use native.Mathlib.Omega.{arith}
 use borrow.Author.Tests.{le-leb, leb-true, eq-eqb, eqb-true}
 use lib.Dec.{leb, eqb}
@@ -18,27 +18,15 @@ use Rattle.formats.specs.declared.Format.the-variants.{Raw10, Raw12}
 use Rattle.formats.specs.Formats.{formatOf}
 use Rattle.packing.specs.Raw.{groupPixels, groupBytes, packGroup, packGroups, payloadOf, widthAllowed, allFit}
 use Rattle.packing.specs.Packing.{packLineReply}
-use Rattle.packing.proofs.RawLaws.{length-payload}
-use Rattle.packing.proofs.RawLaws.{length-group as length-packed-group}
+use Rattle.packing.proofs.RawLaws.{length-payload, length-group as length-packed-group}
+use Rattle.packing.proofs.CheckLaws.{width-tells, width-so}
 use Rattle.unpacking.specs.Pixels.{unpackGroup, unpackGroups, pixelsOf}
 use Rattle.unpacking.specs.Unpacking.{payloadAllowed, unpackWith, unpackReply}
 use Rattle.unpacking.specs.RoundTrip.{PackedUnpacks, UnpackedPacks}
 use Rattle.unpacking.proofs.PixelLaws.{limit, length-group, length-pixels, packed-group, unpacked-group, pixels-below, fit-below, below-fit}
 use Rattle.unpacking.proofs.AnswerLaws.{allowed}
 
--- an allowed width, and an allowed payload, by what they are
-module _ (format : Format) (width : ℕ) where
-  width-tells : widthAllowed format width ≡ true → (1 ≤ width) × (width ≤ 4096) × (width % groupPixels format ≡ 0)
-  unfolding widthAllowed
-  width-tells e =
-      let inside = both (leb 1 width && leb width 4096) (eqb (width % groupPixels format) 0) e in
-      let ends = both (leb 1 width) (leb width 4096) (inside .0) in
-      (leb-true 1 width (ends .0), leb-true width 4096 (ends .1), eqb-true (width % groupPixels format) 0 (inside .1))
-
-  width-so : 1 ≤ width → width ≤ 4096 → width % groupPixels format ≡ 0 → widthAllowed format width ≡ true
-  unfolding widthAllowed
-  width-so l h m = rw (le-leb 1 width l, le-leb width 4096 h, eq-eqb (width % groupPixels format) 0 m)
-
+-- an allowed payload, by what it is
 module _ (format : Format) (count : ℕ) where
   payload-tells : payloadAllowed format count ≡ true → (1 ≤ count) × (count % groupBytes format ≡ 0) × (count / groupBytes format * groupPixels format ≤ 4096)
   unfolding payloadAllowed

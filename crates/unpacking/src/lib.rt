@@ -1,6 +1,6 @@
 // RAW10 and RAW12 read back: the pixels of a line unpacked from the bytes of a payload.
 ghost use mathlib.Core.Path.{_≡_};
-ghost use Prim.Native.Nat.{_*_, _/_, _≤_};
+ghost use Prim.Native.Nat.{_*_, _/_};
 ghost use lib.ListN.{length};
 ghost use Rattle.laws.specs.Reply.{given};
 ghost use Rattle.laws.specs.Buffers.{afterReply, countOf};
