@@ -1,7 +1,7 @@
 -- Laws of the tokens of a line, by the tests that the source makes at a place.
 -- Assumes nothing.
-use mathlib.Core.Path.{_≡_, refl, sym, ap, _∙_}
-use mathlib.Core.Bool.{Bool, true, false, _&&_}
+use mathlib.Core.Path.{_≡_, sym, ap, _∙_}
+use mathlib.Core.Bool.{true, false, _&&_}
 use mathlib.Core.List.{List, _∷_}
 use mathlib.Core.Option.{none, some}
 use Prim.Native.Nat.{ℕ, _+_, _*_, _-_, _≤_, _<_}
@@ -12,6 +12,7 @@ use borrow.Author.Tests.{le-leb, lt-leb, eq-eqb, ne-eqb, lt-ltb, le-ltb}
 use lib.Dec.{leb, eqb}
 use lib.ListN.{length, getD, drop, drop-of-length-le}
 use lib.Seq.{drop-cons, getD-drop, drop-drop}
+use Rattle.laws.proofs.Bools.{never}
 use Rattle.calls.specs.Grammar.{isBlank, digitValue, isCommentOrNone}
 use Rattle.calls.specs.Lines.{afterBlanks, afterWord, digitsRead}
 
@@ -65,10 +66,6 @@ under low high byte h = rw (lt-leb low byte h)
 
 over : (low high byte : ℕ) → high < byte → (leb low byte && leb byte high) ≡ false
 over low high byte h = rw (lt-leb byte high h) (never (leb low byte))
-  where
-    never : (b : Bool) → (b && false) ≡ false
-    never true = refl
-    never false = refl
 
 -- a digit by the range that its byte lies in
 module _ (byte : ℕ) where

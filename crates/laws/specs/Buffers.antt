@@ -24,7 +24,7 @@ abbrev pub afterReply : List ℕ → ℕ → Reply (List ℕ) → List ℕ
 afterReply buffer place (refused number) = buffer
 afterReply buffer place (given bytes) = written buffer place bytes
 
--- the answer to the caller: how many bytes, or which refusal
+-- the answer to the caller: how many bytes or pixels, or which refusal
 abbrev pub countOf : Reply (List ℕ) → Reply ℕ
 countOf (refused number) = refused number
 countOf (given bytes) = given (length bytes)

@@ -1,4 +1,4 @@
--- What every question and every event is answered: a refusal with its number in document 01, or what was asked for.
+-- What every question and every event is answered: a refusal with its number in the papers, or what was asked for.
 -- Assumes nothing.
 use mathlib.Core.Bool.{Bool, true, false}
 use Prim.Native.Nat.{ℕ}

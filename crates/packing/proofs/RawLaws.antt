@@ -46,7 +46,7 @@ payload-small Raw10 width h = omega arith
 payload-small Raw12 width h = omega arith
 
 -- the smaller of two numbers is at most each of them
-pub least-le : (a b : ℕ) → (least a b ≤ a) × (least a b ≤ b)
+least-le : (a b : ℕ) → (least a b ≤ a) × (least a b ≤ b)
 unfolding least
 least-le a b = go (leb a b) refl
   where

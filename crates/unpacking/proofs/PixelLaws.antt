@@ -33,7 +33,7 @@ module _ (format : Format) where
       let more = byte-more format in
       length-joined format (take (groupPixels format) bytes) (getD bytes (groupPixels format) 0) ∙ length-take-le (groupPixels format) bytes (omega arith)
 
-  pub length-unpacked : (n : ℕ) (bytes : List ℕ) → n * groupBytes format ≤ length bytes → length (unpackGroups format n bytes) ≡ n * groupPixels format
+  length-unpacked : (n : ℕ) (bytes : List ℕ) → n * groupBytes format ≤ length bytes → length (unpackGroups format n bytes) ≡ n * groupPixels format
   length-unpacked = length-groups (groupBytes format) (groupPixels format) (unpackGroup format) length-group
 
   -- all groups
