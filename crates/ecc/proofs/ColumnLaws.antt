@@ -1,21 +1,32 @@
--- The 32 columns: a check bit's is the bit itself, none is zero and no two are the same, each by one computed test.
+-- The 32 columns: a data bit's is its constant, a check bit's is the bit itself, none is zero and no two are the same, each by one computed test.
 -- Assumes nothing.
-use mathlib.Core.Path.{_≡_, refl}
+use mathlib.Core.Path.{_≡_, refl, sym, ap, _∙_}
 use mathlib.Core.Bool.{Bool, true, false, _||_, not}
-use Prim.Native.Nat.{ℕ, _+_, _-_, _^_, _<_}
+use Prim.Native.Nat.{ℕ, _+_, _-_, _^_, _<_, _≤_}
 use native.Mathlib.Omega.{arith}
 use borrow.Author.Tests.{eq-eqb, eqb-true}
 use lib.Dec.{T, eqb, eqb→eq}
 use Rattle.laws.proofs.Tables.{allBelow, below-at}
 use Rattle.ecc.specs.CheckBytes.{onesAmong, checkByte}
+use Rattle.ecc.specs.Columns.{dataColumn}
 use Rattle.ecc.specs.Syndrome.{syndromeOf, columnOf}
+
+dataBit : ℕ → Bool
+dataBit i = eqb (columnOf i) (dataColumn i)
+
+pub data-column : (i : ℕ) → i < 24 → columnOf i ≡ dataColumn i
+unfolding allBelow dataBit columnOf syndromeOf dataColumn checkByte onesAmong
+data-column i h = eqb→eq (columnOf i) (dataColumn i) (below-at dataBit 24 tt i h)
 
 checkBit : ℕ → Bool
 checkBit k = eqb (columnOf (24 + k)) (2 ^ k)
 
-pub check-column : (k : ℕ) → k < 8 → columnOf (24 + k) ≡ 2 ^ k
+pub check-column : (i : ℕ) → 24 ≤ i → i < 32 → columnOf i ≡ 2 ^ (i - 24)
 unfolding allBelow checkBit columnOf syndromeOf checkByte onesAmong
-check-column k h = eqb→eq (columnOf (24 + k)) (2 ^ k) (below-at checkBit 8 tt k h)
+check-column i l h =
+    let k = i - 24 in
+    let e : 24 + k ≡ i = omega arith in
+    ap columnOf (sym e) ∙ eqb→eq (columnOf (24 + k)) (2 ^ k) (below-at checkBit 8 tt k (omega arith))
 
 nonzero : ℕ → Bool
 nonzero i = not (eqb (columnOf i) 0)

@@ -1,4 +1,4 @@
-pub mod Masks
 pub mod Linear
+pub mod XorLaws
 pub mod ColumnLaws
 pub mod Near

@@ -45,7 +45,7 @@ pub check-small : (word : ℕ) → checkByte word < 2 ^ 6
 unfolding checkByte
 check-small word = omega arith
 
-check-linear : (a b : ℕ) → checkByte (bitXor a b) ≡ bitXor (checkByte a) (checkByte b)
+pub check-linear : (a b : ℕ) → checkByte (bitXor a b) ≡ bitXor (checkByte a) (checkByte b)
 check-linear a b =
     same-digits 6 _ _ (check-small (bitXor a b)) (xor-lt 6 (checkByte a) (checkByte b) (check-small a) (check-small b))
     (λ k h. digit-check k (bitXor a b) h

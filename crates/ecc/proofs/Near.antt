@@ -5,7 +5,7 @@ use mathlib.Core.Bool.{Bool, true, false, cond}
 use mathlib.Core.Logic.{_⊎_, inl, inr}
 use Prim.Native.Nat.{ℕ, zero, suc, _+_, _-_, _^_, _<_, _≤_}
 use native.Mathlib.Omega.{arith}
-use borrow.Author.Tests.{ne-eqb, eqb-true}
+use borrow.Author.Tests.{eq-eqb, ne-eqb, eqb-true}
 use lib.Bits.{bitXor, xor-lt, xor-self, xor-comm}
 use lib.Count.{ones}
 use Rattle.laws.specs.Reply.{refused, given}
@@ -42,6 +42,13 @@ module _ (header : ℕ) where
         let q : 32 - i ≡ suc (32 - (i + 1)) = omega arith in
         let s : i + 1 ≡ suc i = omega arith in
         rw (q, e, s)
+
+    -- the same by the column of the bit
+    pub column-here : columnOf i ≡ syndromeOf header → correctFrom header i (32 - i) ≡ given (record { header = flipped header i; corrected = HeaderBit i })
+    column-here e = correct-here (right-flipped header i ∙ eq-eqb (columnOf i) (syndromeOf header) e)
+
+    pub column-later : (columnOf i ≡ syndromeOf header → ⊥) → correctFrom header i (32 - i) ≡ correctFrom header (i + 1) (32 - (i + 1))
+    column-later e = correct-later (right-flipped header i ∙ ne-eqb (columnOf i) (syndromeOf header) e)
 
   -- what mending gives is right, and one bit away
   corrected-near : (n i : ℕ) (read : ReadHeader) → correctFrom header i n ≡ given read → (isRight (read .header) ≡ true) × (differences header (read .header) ≤ 1)

@@ -1,3 +1,4 @@
 pub mod CheckBytes
+pub mod Columns
 pub mod HeaderCorrection
 pub mod Syndrome

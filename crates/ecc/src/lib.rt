@@ -1,35 +1,65 @@
 // The check byte (ECC) of a CSI-2 packet header, and the correction of one wrong bit.
 ghost use mathlib.Core.Path.{_≡_};
 ghost use Prim.Native.Nat.{_<_};
+ghost use Rattle.laws.specs.Reply.{given};
 ghost use Rattle.laws.specs.Tables.{tabulate};
 ghost use Rattle.ecc.specs.CheckBytes.{checkByte};
-ghost use Rattle.ecc.specs.HeaderCorrection.{correctionReply, correctFrom, correctionOf};
-ghost use Rattle.ecc.specs.Syndrome.{syndromeOf, columnOf};
+ghost use Rattle.ecc.specs.Columns.{dataColumn};
+ghost use Rattle.ecc.specs.HeaderCorrection.{flipped, correctionReply, correctFrom, correctionOf};
+ghost use Rattle.ecc.specs.declared.Corrected.the-variants.{HeaderBit};
+ghost use Rattle.ecc.specs.Syndrome.{syndromeOf};
 
-// The data bits of each check bit, as masks of the 24-bit word.
-const P0: u32 = 0xF12CB7;
+// The constant of each data bit, to be held beside the standard's table: bit k of it is 1 where check bit Pk counts the data bit.
+// docs/CHECK-BYTES.md has them as a page.
+const COLUMNS: [u8; 24] = [
+    // D0 to D5: data type
+    0x07, // D0
+    0x0B, // D1
+    0x0D, // D2
+    0x0E, // D3
+    0x13, // D4
+    0x15, // D5
+    // D6 and D7: virtual channel
+    0x16, // D6
+    0x19, // D7
+    // D8 to D23: word count or frame number
+    0x1A, // D8
+    0x1C, // D9
+    0x23, // D10
+    0x25, // D11
+    0x26, // D12
+    0x29, // D13
+    0x2A, // D14
+    0x2C, // D15
+    0x31, // D16
+    0x32, // D17
+    0x34, // D18
+    0x38, // D19
+    0x1F, // D20
+    0x2F, // D21
+    0x37, // D22
+    0x3B, // D23
+];
 
-const P1: u32 = 0xF2555B;
+// The constants, with their rule.
+fn column_table() -> [u8; 24]
+    ensures { λ r. ⌜ r ≡ tabulate dataColumn 24 ⌝ }
+{
+    COLUMNS
+}
 
-const P2: u32 = 0x749A6D;
-
-const P3: u32 = 0xB8E38E;
-
-const P4: u32 = 0xDF03F0;
-
-const P5: u32 = 0xEFFC00;
-
-// The check byte of a header whose three first bytes are `word`, the identifier lowest.
+// The check byte of a header whose three first bytes are `word`, the identifier lowest: the exclusive-or of the constants of the data
+// bits that are 1. (A mask of the bit, and no test: the tests would wait for each other.)
 pub fn check_byte(word: u32) -> u8
     ensures { λ r. ⌜ r ≡ checkByte word ⌝ }
 {
-    let p0 = u32::count_ones(word & P0) % 2;
-    let p1 = u32::count_ones(word & P1) % 2;
-    let p2 = u32::count_ones(word & P2) % 2;
-    let p3 = u32::count_ones(word & P3) % 2;
-    let p4 = u32::count_ones(word & P4) % 2;
-    let p5 = u32::count_ones(word & P5) % 2;
-    (p0 + 2 * p1 + 4 * p2 + 8 * p3 + 16 * p4 + 32 * p5) as u8
+    let columns = column_table();
+    let mut check: u8 = 0;
+    for i in 0..24 {
+        let bit = ((word >> i) % 2) as u8;
+        check ^= columns[i] & (0xFF * bit);
+    }
+    check
 }
 
 // Which of a header's 32 bits was wrong: 0 is the lowest of the identifier, 31 the highest of the check byte.
@@ -44,69 +74,42 @@ pub enum Correction {
     Header { header: u32, corrected: Corrected },
 }
 
-// The check byte's difference that each data bit makes when it is flipped, D0 to D23.
-const COLUMNS: [u8; 24] = [
-    0x07,
-    0x0B,
-    0x0D,
-    0x0E,
-    0x13,
-    0x15,
-    0x16,
-    0x19,
-    0x1A,
-    0x1C,
-    0x23,
-    0x25,
-    0x26,
-    0x29,
-    0x2A,
-    0x2C,
-    0x31,
-    0x32,
-    0x34,
-    0x38,
-    0x1F,
-    0x2F,
-    0x37,
-    0x3B,
-];
-
-// The columns, with their rule.
-fn column_table() -> [u8; 24]
-    ensures { λ r. ⌜ r ≡ tabulate columnOf 24 ⌝ }
+// A header with one of its bits flipped, as the one that was wrong.
+fn flip_bit(header: u32, bit: u8) -> Correction
+    requires { ⌜ bit < 32 ⌝ }
+    ensures { λ r. ⌜ correctionReply r ≡ given (record { header = flipped header bit; corrected = HeaderBit bit }) ⌝ }
 {
-    COLUMNS
-}
-
-// The difference that bit `i` of a header makes: a data bit's column, or the check bit itself.
-fn column(i: u8) -> u8
-    requires { ⌜ i < 32 ⌝ }
-    ensures { λ r. ⌜ r ≡ columnOf i ⌝ }
-{
-    if i < 24 {
-        let table = column_table();
-        return table[i as usize];
+    Correction::Header {
+        header: header ^ (1 << bit),
+        corrected: Corrected::HeaderBit(bit),
     }
-    1 << (i - 24)
 }
 
-// Corrects the one bit that makes the difference `syndrome`.
+// Corrects the check bit that makes the difference `syndrome`: the one that is the difference itself.
+fn correct_check_bit(header: u32, syndrome: u8) -> Correction
+    requires { ⌜ syndrome ≡ syndromeOf header ⌝ }
+    ensures { λ r. ⌜ correctionReply r ≡ correctFrom header 24 8 ⌝ }
+{
+    for i in 24..32u8 {
+        if 1 << (i - 24) == syndrome {
+            return flip_bit(header, i);
+        }
+    }
+    Correction::Uncorrectable
+}
+
+// Corrects the one bit that makes the difference `syndrome`: the data bit whose constant it is, or a check bit.
 fn correct_bit(header: u32, syndrome: u8) -> Correction
     requires { ⌜ syndrome ≡ syndromeOf header ⌝ }
     ensures { λ r. ⌜ correctionReply r ≡ correctFrom header 0 32 ⌝ }
 {
-    let mut i: u8 = 0;
-    while i < 32 {
-        if column(i) == syndrome {
-            return Correction::Header {
-                header: header ^ (1 << (i as u32)),
-                corrected: Corrected::HeaderBit(i),
-            };
+    let columns = column_table();
+    for i in 0..24 {
+        if columns[i] == syndrome {
+            return flip_bit(header, i as u8);
         }
-        i += 1;
     }
-    Correction::Uncorrectable
+    correct_check_bit(header, syndrome)
 }
 
 // Reads a header: as it stands if it is right, else as the right one that differs in one bit.

@@ -1,71 +1,83 @@
--- `ecc::check_byte` meets its contract: each mask has its ones at the places of the paper's list, by computation.
+-- `ecc::check_byte` meets its contract. The loop's invariant: the check byte so far is the exclusive-or of the first i columns.
 -- Assumes nothing.
-use lib.Dec.{lit<}
-use Rattle.ecc.specs.CheckBytes.{checkByte}
-use Rattle.ecc.proofs.Masks.{ones-masked}
+use mathlib.Core.Path.{_≡_, refl, sym, ap, ap₂, _∙_}
+use Prim.Native.Nat.{ℕ, _+_, _-_, _*_, _≤_}
+use native.Mathlib.Omega.{arith}
+use lib.Bits.{bitAnd, bitXor}
+use lib.ListN.{getD}
+use Rattle.laws.specs.Bits.{digit}
+use Rattle.laws.proofs.Tables.{tabulate-at}
+use Rattle.ecc.specs.Columns.{dataColumn, xorOfColumns}
+use Rattle.ecc.proofs.XorLaws.{xor-none, xor-more, xor-is-counts}
 use borrow.Author.Needs.{needs}
 use Rattle.ecc.proofs.check_byte.Statement.{statement}
 use Rattle.ecc.proofs.check_byte.Tie as tie
 
-mul-result : tie.Need-mul-result
-mul-result c = search needs
+abbrev Inv-loop : tie.InvT-loop
+Inv-loop word columns check₀ i₀ check i = (i ≤ 24) × (check ≡ xorOfColumns i word)
 
-add-result : tie.Need-add-result
-add-result c = search needs
+abbrev μ-loop : tie.MeasureT-loop
+μ-loop word columns check₀ i₀ check i = 24 - i
 
-mul-result-2 : tie.Need-mul-result-2
-mul-result-2 c = search needs
+-- the entry of the table for the bit of this turn
+entry : (c : tie.In-loop Inv-loop μ-loop) → getD (c .before .before .column-table .result) (c .before .loop .i) 0 ≡ dataColumn (c .before .loop .i)
+entry c =
+    let i = c .before .loop .i in
+    ap (λ t. getD t i 0) (c .before .before .column-table .ensures) ∙ tabulate-at dataColumn 24 i (c .loop-test .taken)
 
-add-result-2 : tie.Need-add-result-2
-add-result-2 c = search needs
+column-table-requires : tie.Need-column-table-requires Inv-loop μ-loop
+column-table-requires c κs = search needs
 
-mul-result-3 : tie.Need-mul-result-3
-mul-result-3 c = search needs
+loop-holds : tie.Need-loop-holds Inv-loop μ-loop
+loop-holds c = (omega arith, sym (xor-none _))
 
-add-result-3 : tie.Need-add-result-3
-add-result-3 c = search needs
+cast-bit : tie.Need-cast-bit Inv-loop μ-loop
+cast-bit c = search needs
 
-mul-result-4 : tie.Need-mul-result-4
-mul-result-4 c = search needs
+shr-bit : tie.Need-shr-bit Inv-loop μ-loop
+shr-bit c = search needs
 
-add-result-4 : tie.Need-add-result-4
-add-result-4 c = search needs
+cast-bit-2 : tie.Need-cast-bit-2 Inv-loop μ-loop
+cast-bit-2 c = search needs
 
-mul-result-5 : tie.Need-mul-result-5
-mul-result-5 c = search needs
+array-read-check : tie.Need-array-read-check Inv-loop μ-loop
+array-read-check c = search needs
 
-add-result-5 : tie.Need-add-result-5
-add-result-5 c = search needs
+mul-check : tie.Need-mul-check Inv-loop μ-loop
+mul-check c = search needs
 
-cast-result : tie.Need-cast-result
-cast-result c = search needs
+add-i : tie.Need-add-i Inv-loop μ-loop
+add-i c = search needs
 
-returns : tie.Need-returns
-unfolding checkByte
+loop-less : tie.Need-loop-less Inv-loop μ-loop
+loop-less c = search needs
+
+loop-again : tie.Need-loop-again Inv-loop μ-loop
+loop-again c =
+    let l = c .before .loop in
+    let word = c .before .before .before .args .word in
+    (omega arith, ap₂ bitXor (l .inv .1) (ap (λ (t : ℕ). bitAnd t (255 * digit (l .i) word)) (entry c)) ∙ sym (xor-more (l .i) word))
+
+returns : tie.Need-returns Inv-loop μ-loop
 returns c =
-    let w = c .args .word in
-    rw (
-      ones-masked 0xF12CB7 w (lit< tt),
-      ones-masked 0xF2555B w (lit< tt),
-      ones-masked 0x749A6D w (lit< tt),
-      ones-masked 0xB8E38E w (lit< tt),
-      ones-masked 0xDF03F0 w (lit< tt),
-      ones-masked 0xEFFC00 w (lit< tt),
-    )
+    let l = c .before .loop in
+    let all : l .i ≡ 24 = omega arith in
+    rw all at (l .inv .1) ∙ xor-is-counts _
 
 pub check-byte-spec : {M : Type 1} → statement M
 check-byte-spec =
     tie.close
     (tie.spec
-    mul-result
-    add-result
-    mul-result-2
-    add-result-2
-    mul-result-3
-    add-result-3
-    mul-result-4
-    add-result-4
-    mul-result-5
-    add-result-5
-    cast-result
+    Inv-loop
+    μ-loop
+    column-table-requires
+    loop-holds
+    cast-bit
+    shr-bit
+    cast-bit-2
+    array-read-check
+    mul-check
+    add-i
+    loop-less
+    loop-again
     returns)

@@ -3,12 +3,12 @@
 use mathlib.Core.Path.{refl}
 use Rattle.laws.specs.Tables.{tabulate, tabulateFrom}
 use Rattle.ecc.specs.CheckBytes.{onesAmong, checkByte}
-use Rattle.ecc.specs.Syndrome.{syndromeOf, columnOf}
+use Rattle.ecc.specs.Columns.{dataColumn}
 use Rattle.ecc.proofs.column_table.Statement.{statement}
 use Rattle.ecc.proofs.column_table.Tie as tie
 
 returns : tie.Need-returns
-unfolding tabulate tabulateFrom columnOf syndromeOf checkByte onesAmong
+unfolding tabulate tabulateFrom dataColumn checkByte onesAmong
 returns c = refl
 
 pub column-table-spec : {M : Type 1} → statement M
