@@ -37,6 +37,8 @@ fn check_bytes_and_repair() {
         let word = u32::from_le_bytes(bytes);
         let check = check_byte_counted(bytes[0], bytes[1], bytes[2]);
         assert_eq!(ecc::check_byte(word & 0xFF_FFFF), check);
+        assert_eq!(ecc::check_byte_by_columns(word), check);
+        assert_eq!(ecc::check_byte_by_table(word), check);
         let expected = repair(bytes).ok_or(Refusal::HeaderBeyondRepair);
         let expected = expected.map(|mended| (u32::from_le_bytes(mended.header), mended.bit));
         assert_eq!(ecc::correct_by_search(word), expected);

@@ -26,7 +26,15 @@ pub fn contests() -> Vec<Contest<'static>> {
 fn check_byte(words: &[u32]) -> Contest<'static> {
     Contest::new("check byte of a header")
         .way("proved", in_turn(words, proved::check_byte))
+        .way(
+            "columns of the ones, bit by bit",
+            in_turn(words, ecc::check_byte_by_columns),
+        )
         .way("ones counted under masks", in_turn(words, ecc::check_byte))
+        .way(
+            "looked up byte by byte",
+            in_turn(words, ecc::check_byte_by_table),
+        )
 }
 
 fn repair(name: &'static str, words: &[u32]) -> Contest<'static> {

@@ -1,5 +1,6 @@
-//! The check byte (ECC) by counts of ones under masks, and header repair by its syndrome: looked
-//! for among the columns of the 32 bits, or looked up in a table of all syndromes.
+//! The check byte (ECC) by counts of ones under masks, by the columns of the data bits that are 1,
+//! or looked up byte by byte; and header repair by its syndrome: looked for among the columns of
+//! the 32 bits, or looked up in a table of all syndromes.
 
 use crate::refusal::Refusal;
 
@@ -8,6 +9,9 @@ const MASKS: [u32; 6] = [0xF12CB7, 0xF2555B, 0x749A6D, 0xB8E38E, 0xDF03F0, 0xEFF
 
 /// The syndrome that each of the 32 bits makes when it is flipped.
 static COLUMNS: [u8; 32] = columns();
+
+/// The check byte of each of the three bytes alone.
+static CHECKS: [[u8; 256]; 3] = checks();
 
 /// For each syndrome the bit that makes it, or `NO_BIT`.
 static BITS: [u8; 256] = bits();
@@ -21,6 +25,17 @@ const fn columns() -> [u8; 32] {
         bit += 1;
     }
     columns
+}
+
+const fn checks() -> [[u8; 256]; 3] {
+    let mut checks = [[0; 256]; 3];
+    let mut i = 0;
+    while i < 3 * 256 {
+        let (place, byte) = (i / 256, i % 256);
+        checks[place][byte] = check_bits((byte as u32) << (8 * place));
+        i += 1;
+    }
+    checks
 }
 
 const fn bits() -> [u8; 256] {
@@ -52,6 +67,22 @@ const fn syndrome(header: u32) -> u8 {
 #[inline(never)]
 pub fn check_byte(word: u32) -> u8 {
     check_bits(word)
+}
+
+#[inline(never)]
+pub fn check_byte_by_columns(word: u32) -> u8 {
+    let mut check = 0;
+    for (place, column) in COLUMNS[..24].iter().enumerate() {
+        let bit = (word >> place & 1) as u8;
+        check ^= column & bit.wrapping_neg();
+    }
+    check
+}
+
+#[inline(never)]
+pub fn check_byte_by_table(word: u32) -> u8 {
+    let [first, second, third, _] = word.to_le_bytes();
+    CHECKS[0][usize::from(first)] ^ CHECKS[1][usize::from(second)] ^ CHECKS[2][usize::from(third)]
 }
 
 /// A header as it is read: the right one, and the bit that was corrected if one was.

@@ -1,0 +1,62 @@
+//! The page of the check byte's table, held to document 01's lists of data bits.
+
+use independent::header::COUNTED;
+use std::fs;
+use std::path::Path;
+
+fn page() -> String {
+    let file = Path::new(env!("CARGO_MANIFEST_DIR")).join("../docs/CHECK-BYTES.md");
+    fs::read_to_string(file).unwrap()
+}
+
+/// The check bits that count a data bit.
+fn counting(bit: u8) -> Vec<usize> {
+    (0..6).filter(|&k| COUNTED[k].contains(&bit)).collect()
+}
+
+fn constant(bit: u8) -> u8 {
+    counting(bit).into_iter().map(|k| 1 << k).sum()
+}
+
+fn field(bit: u8) -> String {
+    match bit {
+        0..=5 => format!("data type, bit {bit}"),
+        6..=7 => format!("virtual channel, bit {}", bit - 6),
+        _ => format!("word count or frame number, bit {}", bit - 8),
+    }
+}
+
+#[test]
+fn the_table_has_a_line_for_each_data_bit() {
+    let page = page();
+    let lines: Vec<&str> = page
+        .lines()
+        .filter(|line| line.starts_with("| D"))
+        .collect();
+    let expected: Vec<String> = (0..24)
+        .map(|bit| {
+            let names: Vec<String> = counting(bit).iter().map(|k| format!("P{k}")).collect();
+            let (field, constant) = (field(bit), constant(bit));
+            format!(
+                "| D{bit} | {field} | {constant:02X} | {} |",
+                names.join(" ")
+            )
+        })
+        .collect();
+    assert_eq!(lines, expected);
+}
+
+#[test]
+fn the_rows_of_eight_are_the_same_constants() {
+    let page = page();
+    for (place, name) in ["identifier ", "count, low ", "count, high "]
+        .iter()
+        .enumerate()
+    {
+        let row = page.lines().find(|line| line.starts_with(name));
+        let constants: Vec<&str> = row.unwrap()[name.len()..].split_whitespace().collect();
+        let bits = 8 * place as u8..8 * place as u8 + 8;
+        let expected: Vec<String> = bits.map(|bit| format!("{:02X}", constant(bit))).collect();
+        assert_eq!(constants, expected, "{name}");
+    }
+}
