@@ -44,7 +44,7 @@ pub fn check_byte_counted(first: u8, second: u8, third: u8) -> u8 {
     check
 }
 
-/// The check byte, counting under masks: the form the writer uses.
+/// The check byte, counting under masks: the form that this package's writer uses.
 pub fn check_byte(first: u8, second: u8, third: u8) -> u8 {
     let word = data_word(first, second, third);
     let mut check = 0;

@@ -1,12 +1,17 @@
-//! The page of the check byte's table, held to document 01's lists of data bits.
+//! The page of the check byte's table, and the table in the proved source beside its bits' names,
+//! held to document 01's lists of data bits.
 
 use independent::header::COUNTED;
 use std::fs;
 use std::path::Path;
 
+fn text(file: &str) -> String {
+    let root = Path::new(env!("CARGO_MANIFEST_DIR")).join("..");
+    fs::read_to_string(root.join(file)).unwrap()
+}
+
 fn page() -> String {
-    let file = Path::new(env!("CARGO_MANIFEST_DIR")).join("../docs/CHECK-BYTES.md");
-    fs::read_to_string(file).unwrap()
+    text("docs/CHECK-BYTES.md")
 }
 
 /// The check bits that count a data bit.
@@ -59,4 +64,13 @@ fn the_rows_of_eight_are_the_same_constants() {
         let expected: Vec<String> = bits.map(|bit| format!("{:02X}", constant(bit))).collect();
         assert_eq!(constants, expected, "{name}");
     }
+}
+
+#[test]
+fn the_source_names_the_bit_of_each_constant() {
+    let source = text("crates/ecc/src/lib.rt");
+    let lines = source.lines().map(str::trim);
+    let table: Vec<&str> = lines.filter(|line| line.contains(", // D")).collect();
+    let line = |bit| format!("0x{:02X}, // D{bit}", constant(bit));
+    assert_eq!(table, (0..24).map(line).collect::<Vec<String>>());
 }

@@ -58,11 +58,6 @@ syndrome-linear a b =
     ap₂ bitXor (ap checkByte (xor-mod a b 24) ∙ check-linear (a % 2 ^ 24) (b % 2 ^ 24)) (xor-shr a b 24)
     ∙ xor-swap (checkByte (a % 2 ^ 24)) (checkByte (b % 2 ^ 24)) (a / 2 ^ 24) (b / 2 ^ 24)
 
-pub syndrome-small : (header : ℕ) → header < 2 ^ 32 → syndromeOf header < 2 ^ 8
-unfolding syndromeOf
-syndrome-small header h =
-    xor-lt 8 (checkByte (header % 2 ^ 24)) (header / 2 ^ 24) (let s = check-small (header % 2 ^ 24) in omega arith) (omega arith)
-
 -- a header is right exactly where its syndrome is zero, and with bit i flipped exactly where it is that bit's column
 pub right-syndrome : (header : ℕ) → isRight header ≡ eqb (syndromeOf header) 0
 unfolding isRight syndromeOf

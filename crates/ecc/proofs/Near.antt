@@ -32,11 +32,11 @@ module _ (header : ℕ) where
   correct-none i h = let q : 32 - i ≡ 0 = omega arith in rw q
 
   module _ (i : ℕ) (h : i < 32) where
-    pub correct-here : isRight (flipped header i) ≡ true → correctFrom header i (32 - i) ≡ given (record { header = flipped header i; corrected = HeaderBit i })
+    correct-here : isRight (flipped header i) ≡ true → correctFrom header i (32 - i) ≡ given (record { header = flipped header i; corrected = HeaderBit i })
     unfolding correctFrom
     correct-here e = let q : 32 - i ≡ suc (32 - (i + 1)) = omega arith in rw (q, e)
 
-    pub correct-later : isRight (flipped header i) ≡ false → correctFrom header i (32 - i) ≡ correctFrom header (i + 1) (32 - (i + 1))
+    correct-later : isRight (flipped header i) ≡ false → correctFrom header i (32 - i) ≡ correctFrom header (i + 1) (32 - (i + 1))
     unfolding correctFrom
     correct-later e =
         let q : 32 - i ≡ suc (32 - (i + 1)) = omega arith in
@@ -95,7 +95,7 @@ module _ (header i : ℕ) (h : i < 32) (right : isRight (flipped header i) ≡ t
   found k zero e = let s : k ≡ i = omega arith in rw s (correct-here header i h right)
   found k (suc j) e = correct-later header k (omega arith) (earlier k (omega arith)) ∙ found (k + 1) j (omega arith)
 
-  pub corrected-read : correctionOf header ≡ given (record { header = flipped header i; corrected = HeaderBit i })
+  corrected-read : correctionOf header ≡ given (record { header = flipped header i; corrected = HeaderBit i })
   corrected-read = correct-wrong header wrong ∙ found 0 i (omega arith)
 
 pub near-is-read : NearIsRead

@@ -9,8 +9,8 @@ ghost use Rattle.ecc.specs.HeaderCorrection.{flipped, correctionReply, c
 ghost use Rattle.ecc.specs.declared.Corrected.the-variants.{HeaderBit};
 ghost use Rattle.ecc.specs.Syndrome.{syndromeOf};
 
-// The constant of each data bit, to be held beside the standard's table: bit k of it is 1 where check bit Pk counts the data bit.
-// docs/CHECK-BYTES.md has them as a page.
+// The constant of each data bit, to be held beside the standard's table. Bit k of a constant is 1 where check bit Pk counts the data
+// bit. docs/CHECK-BYTES.md has the table as a page.
 const COLUMNS: [u8; 24] = [
     // D0 to D5: data type
     0x07, // D0
@@ -49,15 +49,15 @@ fn column_table() -> [u8; 24]
 }
 
 // The check byte of a header whose three first bytes are `word`, the identifier lowest: the exclusive-or of the constants of the data
-// bits that are 1. (A mask of the bit, and no test: the tests would wait for each other.)
+// bits that are 1. (A mask of the bit, and no `if`: with one the 24 steps would wait for each other.)
 pub fn check_byte(word: u32) -> u8
     ensures { λ r. ⌜ r ≡ checkByte word ⌝ }
 {
-    let columns = column_table();
+    let table = column_table();
     let mut check: u8 = 0;
     for i in 0..24 {
         let bit = ((word >> i) % 2) as u8;
-        check ^= columns[i] & (0xFF * bit);
+        check ^= table[i] & (0xFF * bit);
     }
     check
 }
@@ -74,7 +74,7 @@ pub enum Correction {
     Header { header: u32, corrected: Corrected },
 }
 
-// A header with one of its bits flipped, as the one that was wrong.
+// The answer that `bit` was wrong: the header with it flipped.
 fn flip_bit(header: u32, bit: u8) -> Correction
     requires { ⌜ bit < 32 ⌝ }
     ensures { λ r. ⌜ correctionReply r ≡ given (record { header = flipped header bit; corrected = HeaderBit bit }) ⌝ }
@@ -85,7 +85,8 @@ fn flip_bit(header: u32, bit: u8) -> Correction
     }
 }
 
-// Corrects the check bit that makes the difference `syndrome`: the one that is the difference itself.
+// Corrects the check bit that makes the difference `syndrome`: the one that is the difference itself, if
+// there is one.
 fn correct_check_bit(header: u32, syndrome: u8) -> Correction
     requires { ⌜ syndrome ≡ syndromeOf header ⌝ }
     ensures { λ r. ⌜ correctionReply r ≡ correctFrom header 24 8 ⌝ }
@@ -103,9 +104,9 @@ fn correct_bit(header: u32, syndrome: u8) -> Correction
     requires { ⌜ syndrome ≡ syndromeOf header ⌝ }
     ensures { λ r. ⌜ correctionReply r ≡ correctFrom header 0 32 ⌝ }
 {
-    let columns = column_table();
+    let table = column_table();
     for i in 0..24 {
-        if columns[i] == syndrome {
+        if table[i] == syndrome {
             return flip_bit(header, i as u8);
         }
     }

@@ -1,6 +1,5 @@
-//! The check byte (ECC) by counts of ones under masks, by the columns of the data bits that are 1,
-//! or looked up byte by byte; and header repair by its syndrome: looked for among the columns of
-//! the 32 bits, or looked up in a table of all syndromes.
+//! The check byte (ECC) by counts of ones, by columns or by a table for each byte; header repair
+//! by its syndrome, searched among 32 columns or looked up in a table.
 
 use crate::refusal::Refusal;
 

@@ -1,7 +1,7 @@
 -- `ecc::check_byte` meets its contract. The loop's invariant: the check byte so far is the exclusive-or of the first i columns.
 -- Assumes nothing.
-use mathlib.Core.Path.{_≡_, refl, sym, ap, ap₂, _∙_}
-use Prim.Native.Nat.{ℕ, _+_, _-_, _*_, _≤_}
+use mathlib.Core.Path.{_≡_, sym, ap, ap₂, _∙_}
+use Prim.Native.Nat.{ℕ, _-_, _*_, _≤_}
 use native.Mathlib.Omega.{arith}
 use lib.Bits.{bitAnd, bitXor}
 use lib.ListN.{getD}
@@ -14,10 +14,10 @@ use Rattle.ecc.proofs.check_byte.Statement.{statement}
 use Rattle.ecc.proofs.check_byte.Tie as tie
 
 abbrev Inv-loop : tie.InvT-loop
-Inv-loop word columns check₀ i₀ check i = (i ≤ 24) × (check ≡ xorOfColumns i word)
+Inv-loop word table check₀ i₀ check i = (i ≤ 24) × (check ≡ xorOfColumns i word)
 
 abbrev μ-loop : tie.MeasureT-loop
-μ-loop word columns check₀ i₀ check i = 24 - i
+μ-loop word table check₀ i₀ check i = 24 - i
 
 -- the entry of the table for the bit of this turn
 entry : (c : tie.In-loop Inv-loop μ-loop) → getD (c .before .before .column-table .result) (c .before .loop .i) 0 ≡ dataColumn (c .before .loop .i)

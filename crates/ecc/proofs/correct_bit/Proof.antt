@@ -1,7 +1,7 @@
 -- `ecc::correct_bit` meets its contract. The loop's invariant: the search from bit i on finds what the whole search does.
 -- Assumes nothing.
 use mathlib.Core.Path.{_≡_, refl, sym, ap, _∙_}
-use Prim.Native.Nat.{ℕ, _-_, _≤_}
+use Prim.Native.Nat.{_-_, _≤_}
 use lib.ListN.{getD}
 use Rattle.laws.proofs.Tables.{tabulate-at}
 use Rattle.ecc.specs.Columns.{dataColumn}
@@ -15,10 +15,10 @@ use Rattle.ecc.proofs.correct_bit.Statement.{statement}
 use Rattle.ecc.proofs.correct_bit.Tie as tie
 
 abbrev Inv-loop : tie.InvT-loop
-Inv-loop header syndrome columns i₀ i = (i ≤ 24) × (correctFrom header i (32 - i) ≡ correctFrom header 0 32)
+Inv-loop header syndrome table i₀ i = (i ≤ 24) × (correctFrom header i (32 - i) ≡ correctFrom header 0 32)
 
 abbrev μ-loop : tie.MeasureT-loop
-μ-loop header syndrome columns i₀ i = 24 - i
+μ-loop header syndrome table i₀ i = 24 - i
 
 -- what is compared in a turn is the column of its bit
 compared : (c : tie.In-loop Inv-loop μ-loop) → getD (c .before .before .column-table .result) (c .before .loop .i) 0 ≡ columnOf (c .before .loop .i)

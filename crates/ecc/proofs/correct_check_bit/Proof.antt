@@ -1,6 +1,6 @@
 -- `ecc::correct_check_bit` meets its contract. The loop's invariant: the search from bit i on finds what the search of all check bits does.
 -- Assumes nothing.
-use mathlib.Core.Path.{_≡_, refl, sym, ap, _∙_}
+use mathlib.Core.Path.{_≡_, refl, sym, _∙_}
 use Prim.Native.Nat.{ℕ, _-_, _*_, _%_, _^_, _<_, _≤_}
 use Rattle.laws.proofs.Bits.{one-shifted}
 use Rattle.ecc.specs.HeaderCorrection.{correctFrom}
