@@ -1,6 +1,6 @@
 // The checksum (CRC) of a CSI-2 payload, sixteen bytes a step, and 256 where it is long. It needs no table: the polynomial has four
-// terms, so many shifts of the register at once are a few shifts and sums of whole words. (A constant array as large as
-// that table would be is stored anew by each call that reads it.)
+// terms, so many shifts of the register at once are a few shifts and sums of whole words. (A constant array that is
+// read at places which the compiler cannot tell is stored anew by each call.)
 ghost use mathlib.Core.Path.{_≡_};
 ghost use Prim.Native.Nat.{ℕ, _+_, _≤_, _<_};
 ghost use lib.ListN.{length, take, drop};

@@ -85,8 +85,7 @@ fn flip_bit(header: u32, bit: u8) -> Correction
     }
 }
 
-// Corrects the check bit that makes the difference `syndrome`: the one that is the difference itself, if
-// there is one.
+// Corrects the check bit that makes the difference `syndrome`: the one that is the difference itself, if there is one.
 fn correct_check_bit(header: u32, syndrome: u8) -> Correction
     requires { ⌜ syndrome ≡ syndromeOf header ⌝ }
     ensures { λ r. ⌜ correctionReply r ≡ correctFrom header 24 8 ⌝ }
@@ -99,7 +98,7 @@ fn correct_check_bit(header: u32, syndrome: u8) -> Correction
     Correction::Uncorrectable
 }
 
-// Corrects the one bit that makes the difference `syndrome`: the data bit whose constant it is, or a check bit.
+// Corrects the one bit that makes the difference `syndrome`: the data bit whose constant it is, or a check bit, if there is one.
 fn correct_bit(header: u32, syndrome: u8) -> Correction
     requires { ⌜ syndrome ≡ syndromeOf header ⌝ }
     ensures { λ r. ⌜ correctionReply r ≡ correctFrom header 0 32 ⌝ }
