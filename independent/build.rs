@@ -39,9 +39,9 @@ fn folder() -> PathBuf {
 /// What `rustc --version` says, for the header of the benchmark.
 fn rustc_version() -> String {
     let rustc = env::var_os("RUSTC").unwrap_or_else(|| "rustc".into());
-    let said = Command::new(rustc).arg("--version").output();
-    said.map_or_else(
+    let output = Command::new(rustc).arg("--version").output();
+    output.map_or_else(
         |_| "rustc of unknown version".into(),
-        |said| String::from_utf8_lossy(&said.stdout).trim().to_string(),
+        |output| String::from_utf8_lossy(&output.stdout).trim().to_string(),
     )
 }

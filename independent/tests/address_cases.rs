@@ -1,8 +1,8 @@
 //! Who hears an address: the broadcast script and the choices between hub, serializer, targets.
 
-use independent::hub::route;
-use independent::hub::{Device, Direction, Heard, Hub, Role, Route};
-use independent::refusal::Refusal;
+use independent::model::addresses::{Device, Direction, Heard, Role};
+use independent::model::hub::{route, Hub, Route};
+use independent::model::refusal::Refusal;
 
 fn hub(writes: &[(u8, u8)]) -> Hub {
     let mut hub = Hub::new(0x3D).unwrap();

@@ -1,7 +1,7 @@
 //! The page of the check byte's table, and the table in the proved source beside its bits' names,
 //! held to document 01's lists of data bits.
 
-use independent::header::COUNTED;
+use independent::model::header::COUNTED;
 use std::fs;
 use std::path::Path;
 

@@ -3,52 +3,58 @@
 
 mod common;
 
-use common::Bench;
-use independent::compare_scripts::{compare, Findings};
-use independent::comparison::{Found, Settings};
-use independent::samples::SCRIPTS;
+use common::TestFolder;
+use independent::compare::comparison::{Findings, Settings};
+use independent::compare::scripts::CONVERTERS;
+use independent::generate::samples::SCRIPTS;
 use std::fs;
 use std::path::PathBuf;
 use std::time::Duration;
 
 const RIGHT: &str = "exec OWN convert \"$@\"";
 
-impl Bench {
+impl TestFolder {
     fn findings(&self, script: &str, count: u64) -> Findings {
-        compare(&self.settings(script, count)).unwrap()
+        CONVERTERS.run(&self.settings(script, count)).unwrap()
     }
 }
 
 /// What is found in a converter that does this, among the first cases.
 fn found(name: &str, script: &str) -> String {
-    let findings = Bench::new(name).findings(script, 400);
+    let findings = TestFolder::new(name).findings(script, 400);
     findings.difference.map_or("nothing".into(), |it| it.what)
 }
 
 #[test]
 fn a_right_converter_passes_and_too_few_cases_do_not() {
-    let findings = Bench::new("right-converter").findings(RIGHT, 60);
+    let findings = TestFolder::new("right-converter").findings(RIGHT, 60);
     assert!(findings.difference.is_none());
     assert_eq!(findings.texts + findings.traces, 60);
-    assert!(findings.summary().unwrap_err().contains("raise --count"));
+    assert!(CONVERTERS
+        .summary(&findings)
+        .unwrap_err()
+        .contains("raise --count"));
 }
 
 #[test]
 fn a_right_converter_reaches_every_point() {
-    let findings = Bench::new("whole-comparison").findings(RIGHT, 2500);
+    let findings = TestFolder::new("whole-comparison").findings(RIGHT, 2500);
     assert!(findings.difference.is_none());
-    assert!(findings.summary().unwrap().ends_with("0 differences"));
+    assert!(CONVERTERS
+        .summary(&findings)
+        .unwrap()
+        .ends_with("0 differences"));
 }
 
 #[test]
 fn a_changed_byte_of_the_trace_is_found_and_kept() {
-    let bench = Bench::new("changed-trace");
+    let folder = TestFolder::new("changed-trace");
     let script = "OWN convert \"$@\"; [ $1 = text ] || printf X | dd of=\"$4\" bs=1 seek=4 conv=notrunc 2>/dev/null";
-    let difference = bench.findings(script, 60).difference.unwrap();
+    let difference = folder.findings(script, 60).difference.unwrap();
     assert_eq!((difference.number, difference.kind), (0, "sample"));
     let expected = "the trace's file should have 65 bytes and has 65, which differ from byte 4 on";
     assert_eq!(difference.what, expected);
-    let kept = bench.folder.join("kept");
+    let kept = folder.path.join("kept");
     let name = difference.keep(&kept, 964).unwrap();
     assert_eq!(name, "seed-964-case-0");
     let file = |ending: &str| fs::read(kept.join(format!("{name}.{ending}"))).unwrap();
@@ -116,20 +122,26 @@ fn wrong_streams_are_found() {
 
 #[test]
 fn a_converter_that_takes_too_much_is_found() {
+    let taken = "! 14\\n\" and is"; // nothing, or a later refusal
     let changes = [
-        ("carriage-returns", "tr -d '\\r'"),
-        ("last-line", "sed '$a\\'"),
-        ("form-feeds", "tr '\\f' ' '"),
-        ("capital-x", "sed 's/0X/0x/'"),
-        ("cut-at-the-limit", "head -c 262144"),
+        ("carriage-returns", "tr '\\r' ' '", taken),
+        ("last-line", "sed '$a\\'", taken),
+        ("form-feeds", "tr '\\f' ' '", taken),
+        ("capital-x", "sed 's/0X/0x/'", taken),
+        (
+            "cut-at-the-limit",
+            "head -c 262144",
+            "should be missing and is",
+        ),
     ];
-    for (name, change) in changes {
+    for (name, change, expected) in changes {
         let script = format!(
             "[ $1 = text ] && exec OWN convert \"$@\"
 cat $3 | {change} | OWN convert trace $2 - \"$4\""
         );
-        let findings = Bench::new(name).findings(&script, 2500);
-        assert!(findings.difference.is_some(), "{name}");
+        let findings = TestFolder::new(name).findings(&script, 2500);
+        let what = findings.difference.unwrap().what;
+        assert!(what.contains(expected), "{name}: {what}");
     }
 }
 
@@ -146,16 +158,16 @@ fn another_text_is_found() {
 
 #[test]
 fn a_converter_that_takes_too_long_is_ended() {
-    let bench = Bench::new("endless-converter");
-    let mut settings = bench.settings("exec sleep 3", 60);
+    let folder = TestFolder::new("endless-converter");
+    let mut settings = folder.settings("exec sleep 3", 60);
     settings.time_limit = Duration::from_millis(300);
-    let difference = compare(&settings).unwrap().difference.unwrap();
+    let difference = CONVERTERS.run(&settings).unwrap().difference.unwrap();
     assert!(difference.what.contains("did not come to an end"));
 }
 
 #[test]
-fn a_converter_that_is_not_there_is_told() {
-    let settings = Settings::new(PathBuf::from("/no/such/convert"), 60);
-    let error = compare(&settings).err().unwrap().to_string();
+fn a_converter_that_is_not_there_is_reported() {
+    let settings = Settings::new(PathBuf::from("/no/such/convert"));
+    let error = CONVERTERS.run(&settings).err().unwrap().to_string();
     assert!(error.starts_with("cannot run the converter /no/such/convert"));
 }

@@ -1,9 +1,10 @@
 //! The generator: same seed, same traces; every point reached; large traces as long as asked.
 
-use independent::coverage::Tally;
-use independent::generate::{large, numbered, trace, Kind};
-use independent::player::{text_of, Unwatched};
-use independent::rng::Rng;
+use independent::compare::coverage::Coverage;
+use independent::compare::players::{play, PLAYERS};
+use independent::generate::rng::Rng;
+use independent::generate::traces::{large, numbered, trace, Kind};
+use independent::model::player::{text_of, Unwatched};
 
 #[test]
 fn the_same_seed_gives_the_same_traces() {
@@ -16,15 +17,12 @@ fn the_same_seed_gives_the_same_traces() {
 #[test]
 fn every_point_is_reached_whatever_the_seed() {
     for seed in [964, 0, 1, u64::MAX] {
-        let mut tally = Tally::default();
+        let mut coverage = Coverage::new(PLAYERS.points);
         for number in 0..1000 {
             let (_, trace) = numbered(seed, number);
-            if trace.is_empty() {
-                tally.note("an empty file");
-            }
-            text_of(&trace, &mut tally);
+            play(&trace, &mut coverage);
         }
-        assert_eq!(tally.missing(), Vec::<&str>::new(), "seed {seed}");
+        assert_eq!(coverage.missing(PLAYERS.points), [""; 0], "seed {seed}");
     }
 }
 
@@ -36,6 +34,10 @@ fn every_kind_has_a_name_and_traces() {
         for turn in [0, 1, 77, u64::MAX] {
             trace(kind, &mut Rng::new(turn), turn);
         }
+    }
+    for number in (0..40).chain([200, 400]) {
+        let (kind, _) = numbered(1, number);
+        assert_eq!(Kind::of_name(kind.name()), Some(kind));
     }
     assert_eq!(Kind::of_name("none such"), None);
 }

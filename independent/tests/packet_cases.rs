@@ -1,12 +1,13 @@
 //! Packets: check bytes, checksums, packing, the reader's refusals and round trips.
 
-use independent::checksum::{bit_by_bit, by_table};
-use independent::frames::Format;
-use independent::header::{check_byte, check_byte_counted, header};
-use independent::packet::{payload, read, write_line, write_short};
-use independent::pixels::{pack, payload_length, unpack};
-use independent::refusal::Refusal;
-use independent::rng::Rng;
+use independent::compare::cases::CHECKSUM_VECTORS;
+use independent::generate::rng::Rng;
+use independent::model::checksum::{bit_by_bit, by_table};
+use independent::model::format::Format;
+use independent::model::header::{check_byte, check_byte_counted, header};
+use independent::model::packet::{payload, read, write_line, write_short};
+use independent::model::pixels::{pack, payload_length, unpack};
+use independent::model::refusal::Refusal;
 
 #[test]
 fn check_bytes_of_the_cases() {
@@ -39,16 +40,8 @@ fn check_byte_columns_are_the_standards() {
 
 #[test]
 fn checksum_vectors_of_the_standard() {
-    let first = [
-        0xFF, 0x00, 0x00, 0x02, 0xB9, 0xDC, 0xF3, 0x72, 0xBB, 0xD4, 0xB8, 0x5A, 0xC8, 0x75, 0xC2,
-        0x7C, 0x81, 0xF8, 0x05, 0xDF, 0xFF, 0x00, 0x00, 0x01,
-    ];
-    let second = [
-        0xFF, 0x00, 0x00, 0x00, 0x1E, 0xF0, 0x1E, 0xC7, 0x4F, 0x82, 0x78, 0xC5, 0x82, 0xE0, 0x8C,
-        0x70, 0xD2, 0x3C, 0x78, 0xE9, 0xFF, 0x00, 0x00, 0x01,
-    ];
-    assert_eq!(bit_by_bit(&first), 0x00F0);
-    assert_eq!(bit_by_bit(&second), 0xE569);
+    let sums = CHECKSUM_VECTORS.map(|payload| bit_by_bit(&payload));
+    assert_eq!(sums, [0x00F0, 0xE569]);
     assert_eq!(bit_by_bit(&[]), 0xFFFF);
 }
 

@@ -1,17 +1,17 @@
 //! The player: refusal 13 in all its forms, the end of the run, the last line, single answers.
 
-use independent::generate::whole_case;
-use independent::player::{text_of, Unwatched};
-use independent::rng::Rng;
-use independent::script::Script;
+use independent::generate::rng::Rng;
+use independent::generate::samples::whole_case;
+use independent::model::player::{text_of, Unwatched};
+use independent::model::trace_builder::TraceBuilder;
 
 fn text(trace: &[u8]) -> String {
     let (text, _) = text_of(trace, &mut Unwatched);
     String::from_utf8(text).unwrap()
 }
 
-fn played(script: Script) -> String {
-    text(script.as_bytes())
+fn played(trace: TraceBuilder) -> String {
+    text(trace.as_bytes())
 }
 
 const REFUSED_AT_ONCE: &str = "1 ! 13\nrecords 1 refused 1\n";
@@ -43,19 +43,19 @@ fn files_that_begin_wrongly() {
 #[test]
 fn refusal_2_in_record_1_ends_the_run() {
     for address in [0x00, 0x07, 0x78, 0x80, 0xFF] {
-        let mut script = Script::with_hub(address);
-        script.read(0x4C);
-        assert_eq!(played(script), "1 ! 2\nrecords 1 refused 1\n");
+        let mut trace = TraceBuilder::with_hub(address);
+        trace.read(0x4C);
+        assert_eq!(played(trace), "1 ! 2\nrecords 1 refused 1\n");
     }
 }
 
 #[test]
 fn refusal_2_later_does_not() {
-    let mut script = Script::with_hub(0x3D);
-    script.ask_both(0x80);
-    script.read(0x0A);
+    let mut trace = TraceBuilder::with_hub(0x3D);
+    trace.ask_both(0x80);
+    trace.read(0x0A);
     let expected = "1 H 3D\n2 ! 2\n3 ! 2\n4 R 0A 79\nrecords 4 refused 2\n";
-    assert_eq!(played(script), expected);
+    assert_eq!(played(trace), expected);
 }
 
 #[test]
@@ -77,10 +77,10 @@ fn refusal_13_comes_before_all_others_and_ends_the_run() {
         (0x12, &[0x04, 0x00, 0x00, 0x00, 0x00, 0x00]),
     ];
     for (kind, data) in wrong {
-        let mut script = Script::with_hub(0x3D);
-        script.record(kind, data);
-        script.read(0x4C);
-        assert_eq!(played(script), REFUSED_SECOND, "{kind:02X} {data:02X?}");
+        let mut trace = TraceBuilder::with_hub(0x3D);
+        trace.record(kind, data);
+        trace.read(0x4C);
+        assert_eq!(played(trace), REFUSED_SECOND, "{kind:02X} {data:02X?}");
     }
 }
 
@@ -112,18 +112,18 @@ fn every_cut_of_the_whole_case_prints_a_part_of_it() {
 
 #[test]
 fn answers_of_every_form() {
-    let mut script = Script::with_hub(0x3D);
-    script.burst(0x4C, &[0x0F]);
-    script.write(0x58, 0x58);
-    script.burst(0x5B, &[0xB0, 0x18]);
-    script.ask_both(0x0C);
-    script.ask_both(0x3D);
-    script.ask_both(0x11);
-    script.start(2, 12);
-    script.line(2, 2, 0xFFF);
-    script.end(2);
-    script.write(0x20, 0x04);
-    script.start(2, 12);
+    let mut trace = TraceBuilder::with_hub(0x3D);
+    trace.burst(0x4C, &[0x0F]);
+    trace.write(0x58, 0x58);
+    trace.burst(0x5B, &[0xB0, 0x18]);
+    trace.ask_both(0x0C);
+    trace.ask_both(0x3D);
+    trace.ask_both(0x11);
+    trace.start(2, 12);
+    trace.line(2, 2, 0xFFF);
+    trace.end(2);
+    trace.write(0x20, 0x04);
+    trace.start(2, 12);
     let expected = "\
 1 H 3D
 2 W 4C 1
@@ -142,15 +142,15 @@ fn answers_of_every_form() {
 15 S 2 1 80020005
 records 15 refused 0
 ";
-    assert_eq!(played(script), expected);
+    assert_eq!(played(trace), expected);
 }
 
 #[test]
 fn a_full_burst_counts_254_values() {
-    let mut script = Script::with_hub(0x3D);
-    script.burst(0x00, &[0xFF; 254]);
+    let mut trace = TraceBuilder::with_hub(0x3D);
+    trace.burst(0x00, &[0xFF; 254]);
     let expected = "1 H 3D\n2 W 00 254\nrecords 2 refused 0\n";
-    assert_eq!(played(script), expected);
+    assert_eq!(played(trace), expected);
 }
 
 #[test]

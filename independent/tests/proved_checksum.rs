@@ -1,9 +1,10 @@
-//! The proved checksum (CRC) against this package's own, in one go and fed in pieces.
+//! The proved checksum (CRC) against the model's, in one go and fed in pieces.
 #![cfg(feature = "proved")]
 
-use independent::checksum::{bit_by_bit, by_table, fed};
-use independent::proved;
-use independent::rng::Rng;
+use independent::compare::cases::CHECKSUM_VECTORS;
+use independent::compare::proved;
+use independent::generate::rng::Rng;
+use independent::model::checksum::{bit_by_bit, by_table, feed};
 
 const ALIGNMENTS: usize = 16;
 const LONG: [usize; 12] = [
@@ -12,16 +13,8 @@ const LONG: [usize; 12] = [
 
 #[test]
 fn vectors_of_the_standard() {
-    let first = [
-        0xFF, 0x00, 0x00, 0x02, 0xB9, 0xDC, 0xF3, 0x72, 0xBB, 0xD4, 0xB8, 0x5A, 0xC8, 0x75, 0xC2,
-        0x7C, 0x81, 0xF8, 0x05, 0xDF, 0xFF, 0x00, 0x00, 0x01,
-    ];
-    let second = [
-        0xFF, 0x00, 0x00, 0x00, 0x1E, 0xF0, 0x1E, 0xC7, 0x4F, 0x82, 0x78, 0xC5, 0x82, 0xE0, 0x8C,
-        0x70, 0xD2, 0x3C, 0x78, 0xE9, 0xFF, 0x00, 0x00, 0x01,
-    ];
-    assert_eq!(proved::checksum(&first), 0x00F0);
-    assert_eq!(proved::checksum(&second), 0xE569);
+    let sums = CHECKSUM_VECTORS.map(|payload| proved::checksum(&payload));
+    assert_eq!(sums, [0x00F0, 0xE569]);
     assert_eq!(proved::checksum(&[]), 0xFFFF);
 }
 
@@ -75,7 +68,7 @@ fn feeding_from_any_register() {
     for turn in 0..20_000 {
         let length = rng.index(if turn % 10 == 0 { 2000 } else { 80 });
         let (crc, bytes) = (rng.word(), rng.bytes(length));
-        assert_eq!(proved::feed(crc, &bytes), fed(crc, &bytes));
+        assert_eq!(proved::feed(crc, &bytes), feed(crc, &bytes));
     }
 }
 

@@ -1,11 +1,11 @@
-//! The proved check byte (ECC) and header repair against this package's own.
+//! The proved check byte (ECC) and header repair against the model's.
 #![cfg(feature = "proved")]
 
-use independent::expected;
-use independent::header::header;
-use independent::proved;
-use independent::refusal::Refusal;
-use independent::rng::Rng;
+use independent::compare::expected;
+use independent::compare::proved;
+use independent::generate::rng::Rng;
+use independent::model::header::header;
+use independent::model::refusal::Refusal;
 
 fn right_headers(count: usize) -> Vec<u32> {
     let mut rng = Rng::new(30);

@@ -1,15 +1,15 @@
-//! The proved packing and line writing against this package's own: the answer, and every byte of
+//! The proved packing and line writing against the model's: the answer, and every byte of
 //! the buffer.
 #![cfg(feature = "proved")]
 
 mod lines;
 
-use independent::expected;
-use independent::frames::Format;
-use independent::pixels::payload_length;
-use independent::proved;
-use independent::refusal::Refusal;
-use independent::rng::Rng;
+use independent::compare::expected;
+use independent::compare::proved;
+use independent::generate::rng::Rng;
+use independent::model::format::Format;
+use independent::model::pixels::payload_length;
+use independent::model::refusal::Refusal;
 use lines::{assert_seen, good_pixels, proved_pack, Seen};
 
 const FORMATS: [Format; 2] = [Format::Raw10, Format::Raw12];
@@ -55,14 +55,18 @@ impl Case {
     ) {
         let (mut buffer, mut expected_buffer) = (self.buffer.clone(), self.buffer.clone());
         let (answer, expected) = (proved(&mut buffer), expected(&mut expected_buffer));
-        assert_eq!(answer, expected, "{}", self.told());
-        assert!(buffer == expected_buffer, "another buffer: {}", self.told());
+        assert_eq!(answer, expected, "{}", self.describe());
+        assert!(
+            buffer == expected_buffer,
+            "another buffer: {}",
+            self.describe()
+        );
         let number = (answer >> 56) as usize;
-        assert!(number == 0 || buffer == self.buffer, "{}", self.told());
+        assert!(number == 0 || buffer == self.buffer, "{}", self.describe());
         seen[number] += 1;
     }
 
-    fn told(&self) -> String {
+    fn describe(&self) -> String {
         format!(
             "{:?}, {} pixels, identifier {:02X}, place {} of {}",
             self.format,

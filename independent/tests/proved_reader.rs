@@ -1,13 +1,13 @@
-//! The proved reader of packets against this package's own.
+//! The proved reader of packets against the model's.
 #![cfg(feature = "proved")]
 
-use independent::expected;
-use independent::frames::Format;
-use independent::header::{flipped, header};
-use independent::packet::{payload, write_line};
-use independent::proved;
-use independent::refusal::Refusal;
-use independent::rng::Rng;
+use independent::compare::expected;
+use independent::compare::proved;
+use independent::generate::rng::Rng;
+use independent::model::format::Format;
+use independent::model::header::{flipped, header};
+use independent::model::packet::{payload, write_line};
+use independent::model::refusal::Refusal;
 
 /// How often each number stood in the top byte of an answer: 0 for none refused.
 type Seen = [u64; 16];
@@ -109,7 +109,7 @@ fn two_header_bits_flipped() {
 }
 
 #[test]
-fn every_byte_behind_the_header_damaged() {
+fn every_byte_after_the_header_damaged() {
     let (mut rng, mut seen) = (Rng::new(64), Seen::default());
     for _ in 0..50 {
         let mut bytes = line(&mut rng, 30);

@@ -1,14 +1,14 @@
-//! The proved unpacking against this package's own: the answer, and every pixel in and around the
+//! The proved unpacking against the model's: the answer, and every pixel in and around the
 //! slice; and against the proved packing, both ways.
 #![cfg(feature = "proved")]
 
 mod lines;
 
-use independent::expected;
-use independent::frames::Format;
-use independent::proved;
-use independent::refusal::Refusal;
-use independent::rng::Rng;
+use independent::compare::expected;
+use independent::compare::proved;
+use independent::generate::rng::Rng;
+use independent::model::format::Format;
+use independent::model::refusal::Refusal;
 use lines::{assert_seen, good_pixels, proved_pack, Seen};
 use std::ops::Range;
 
@@ -50,15 +50,19 @@ impl<'a> Case<'a> {
         let (mut buffer, mut expected_buffer) = (self.buffer.clone(), self.buffer.clone());
         let answer = proved::unpack(bits, payload, &mut buffer[slice.clone()]);
         let expected = expected::unpack(bits, payload, &mut expected_buffer[slice.clone()]);
-        assert_eq!(answer, expected, "{}", self.told());
-        assert!(buffer == expected_buffer, "another buffer: {}", self.told());
+        assert_eq!(answer, expected, "{}", self.describe());
+        assert!(
+            buffer == expected_buffer,
+            "another buffer: {}",
+            self.describe()
+        );
         let number = (answer >> 56) as usize;
-        assert!(number == 0 || buffer == self.buffer, "{}", self.told());
+        assert!(number == 0 || buffer == self.buffer, "{}", self.describe());
         seen[number] += 1;
         if number == 0 {
             let (unpacked, rest) = buffer[slice.start..].split_at(answer as usize);
             let rest_before = &self.buffer[slice.start + unpacked.len()..];
-            assert!(rest == rest_before, "another rest: {}", self.told());
+            assert!(rest == rest_before, "another rest: {}", self.describe());
             self.pack_again(unpacked);
         }
     }
@@ -66,11 +70,15 @@ impl<'a> Case<'a> {
     fn pack_again(&self, unpacked: &[u16]) {
         let mut packed = vec![0; self.payload.len()];
         let answer = proved_pack(format_of(self.bits), unpacked, &mut packed, 0);
-        assert_eq!(answer, packed.len() as u64, "{}", self.told());
-        assert!(packed == self.payload, "another payload: {}", self.told());
+        assert_eq!(answer, packed.len() as u64, "{}", self.describe());
+        assert!(
+            packed == self.payload,
+            "another payload: {}",
+            self.describe()
+        );
     }
 
-    fn told(&self) -> String {
+    fn describe(&self) -> String {
         format!(
             "{} bytes as {} bits into {}",
             self.payload.len(),

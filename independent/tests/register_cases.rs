@@ -1,6 +1,6 @@
 //! The register file: the starred register cases, resets and masks, ticks, bursts, SCL times.
 
-use independent::registers::{register, reset_value, RegisterFile};
+use independent::model::registers::{register, reset_value, RegisterFile};
 
 fn written(writes: &[(u8, u8)]) -> RegisterFile {
     let mut file = RegisterFile::after_reset();
@@ -48,9 +48,9 @@ fn resets_are_those_of_the_table_and_lie_inside_the_masks() {
     let file = RegisterFile::after_reset();
     for offset in 0..=255u8 {
         let listed = shared.iter().find(|(known, _)| *known == offset);
-        if !register(offset).per_port {
-            assert_eq!(file.shared(offset), listed.map_or(0, |(_, reset)| *reset));
-        }
+        assert_eq!(file.shared(offset), listed.map_or(0, |(_, reset)| *reset));
+        let per_port = matches!(offset, 0x58 | 0x5B..=0x6C | 0x70 | 0x71);
+        assert_eq!(register(offset).per_port, per_port, "{offset:02X}");
         for port in 0..4 {
             assert_eq!(reset_value(offset, port) & !register(offset).mask, 0);
         }
@@ -58,6 +58,7 @@ fn resets_are_those_of_the_table_and_lie_inside_the_masks() {
     let identifiers = [0x2B, 0x6B, 0xAB, 0xEB];
     for (port, identifier) in identifiers.into_iter().enumerate() {
         assert_eq!(file.on_port(port, 0x58), 0x18);
+        assert!((0x5B..=0x6C).all(|offset| file.on_port(port, offset) == 0));
         assert_eq!(file.on_port(port, 0x70), identifier);
         assert_eq!(file.on_port(port, 0x71), identifier + 1);
     }

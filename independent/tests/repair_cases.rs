@@ -1,8 +1,8 @@
 //! Header repair: every single wrong bit is mended and named, every double one is refused.
 
-use independent::header::{check_byte, flipped, header, is_right, repair, Mended};
-use independent::packet::read;
-use independent::rng::Rng;
+use independent::generate::rng::Rng;
+use independent::model::header::{check_byte, flipped, header, is_right, repair, Mended};
+use independent::model::packet::read;
 
 fn headers(count: usize) -> Vec<[u8; 4]> {
     let mut rng = Rng::new(5);

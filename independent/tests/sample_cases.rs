@@ -1,7 +1,7 @@
 //! The samples as they are stored: the data sheet's scripts and the weighbridge's.
 
-use independent::convert::to_trace;
-use independent::samples::{write_all, SCRIPTS};
+use independent::generate::samples::{write_all, SCRIPTS};
+use independent::model::convert::to_trace;
 use std::fs;
 use std::path::{Path, PathBuf};
 

@@ -1,8 +1,8 @@
 //! Request L1 by hand: scripts to traces and back, and every refusal in its order.
 
-use independent::convert::{to_text, to_trace, Refused};
-use independent::refusal::Refusal;
-use independent::script::Script;
+use independent::model::convert::{to_text, to_trace, Refused};
+use independent::model::refusal::Refusal;
+use independent::model::trace_builder::TraceBuilder;
 
 /// What the program would print of a refusal.
 fn refused<T>(answer: Result<T, Refused>) -> String {
@@ -16,8 +16,8 @@ fn refusal(text: &str) -> String {
     refused(to_trace(0x3D, text.as_bytes()))
 }
 
-fn text_of(script: Script) -> Result<String, Refused> {
-    to_text(script.as_bytes()).map(|text| String::from_utf8(text).unwrap())
+fn text_of(trace: TraceBuilder) -> Result<String, Refused> {
+    to_text(trace.as_bytes()).map(|text| String::from_utf8(text).unwrap())
 }
 
 const CALL: &str = "WriteI2C(0x4c,0x0f)";
@@ -114,9 +114,9 @@ fn the_hub_address_comes_before_any_line() {
 
 #[test]
 fn a_trace_gives_a_line_for_each_byte() {
-    let mut script = Script::with_hub(0x3D);
-    script.write(0x4C, 0x0F);
-    script.burst(0xFE, &[0x01, 0xAB, 0x00, 0xF0]);
+    let mut trace = TraceBuilder::with_hub(0x3D);
+    trace.write(0x4C, 0x0F);
+    trace.burst(0xFE, &[0x01, 0xAB, 0x00, 0xF0]);
     let text = "\
 WriteI2C(0x4c,0x0f)
 WriteI2C(0xfe,0x01)
@@ -124,11 +124,11 @@ WriteI2C(0xff,0xab)
 WriteI2C(0x00,0x00)
 WriteI2C(0x01,0xf0)
 ";
-    assert_eq!(text_of(script).unwrap(), text);
-    assert_eq!(text_of(Script::with_hub(0x08)).unwrap(), "");
-    let mut script = Script::with_hub(0x3D);
-    script.burst(0x80, &[0x55; 254]);
-    let text = text_of(script).unwrap();
+    assert_eq!(text_of(trace).unwrap(), text);
+    assert_eq!(text_of(TraceBuilder::with_hub(0x08)).unwrap(), "");
+    let mut trace = TraceBuilder::with_hub(0x3D);
+    trace.burst(0x80, &[0x55; 254]);
+    let text = text_of(trace).unwrap();
     assert_eq!(text.lines().count(), 254);
     assert!(text.ends_with("WriteI2C(0x7c,0x55)\nWriteI2C(0x7d,0x55)\n"));
 }
@@ -136,15 +136,15 @@ WriteI2C(0x01,0xf0)
 #[test]
 fn traces_are_refused_record_by_record() {
     let with = |address: u8, records: &[(u8, &[u8])]| {
-        let mut script = Script::with_hub(address);
+        let mut trace = TraceBuilder::with_hub(address);
         for (kind, data) in records {
-            script.record(*kind, data);
+            trace.record(*kind, data);
         }
-        refused(text_of(script))
+        refused(text_of(trace))
     };
     assert_eq!(refused(to_text(&[])), "! 13");
     assert_eq!(refused(to_text(&[0x9A])), "! 13");
-    assert_eq!(refused(text_of(Script::default())), "! 13");
+    assert_eq!(refused(text_of(TraceBuilder::default())), "! 13");
     let right: [(u8, &[u8]); 5] = [
         (0x02, &[0x4C]),
         (0x03, &[0x30, 0x00]),
@@ -164,10 +164,10 @@ fn traces_are_refused_record_by_record() {
     assert_eq!(with(0x3D, &[(0x00, &[0x3D])]), "! 13");
     assert_eq!(with(0x3D, &[(0x01, &[0x4C])]), "! 13");
     assert_eq!(with(0x07, &[(0x13, &[])]), "! 2");
-    let mut first = Script::default();
+    let mut first = TraceBuilder::default();
     first.write(0x4C, 0x0F);
     assert_eq!(refused(text_of(first)), "! 13");
-    let mut first = Script::default();
+    let mut first = TraceBuilder::default();
     first.record(0x00, &[0xFF, 0xFF]);
     assert_eq!(refused(text_of(first)), "! 13");
 }

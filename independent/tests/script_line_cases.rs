@@ -1,7 +1,7 @@
 //! The shape of a line, against a second reader that walks a pattern byte by byte.
 
 use independent::generate::scripts::{numbered, Job};
-use independent::writei2c::{read_line, read_shape, Call};
+use independent::model::script_line::{read_line, read_shape, Call};
 
 /// _ is any number of blanks, h a hex digit, H one or none.
 const BLANK: &[u8] = b"_";
@@ -63,10 +63,10 @@ fn every_byte_changed_inserted_or_deleted_at_every_place() {
     for line in LINES {
         check(line);
         for place in 0..=line.len() {
-            let (before, behind) = line.split_at(place);
+            let (before, after) = line.split_at(place);
             for byte in 0..=255 {
-                check(&[before, &[byte], behind].concat());
-                if let Some((_, rest)) = behind.split_first() {
+                check(&[before, &[byte], after].concat());
+                if let Some((_, rest)) = after.split_first() {
                     check(&[before, &[byte], rest].concat());
                     check(&[before, rest].concat());
                 }
@@ -77,11 +77,14 @@ fn every_byte_changed_inserted_or_deleted_at_every_place() {
 
 #[test]
 fn every_line_of_the_generator() {
+    let mut lines = 0;
     for number in 0..1500 {
         if let Job::Trace { text, .. } = numbered(7, number).job {
             text.split(|&byte| byte == b'\n').for_each(check);
+            lines += text.split(|&byte| byte == b'\n').count();
         }
     }
+    assert!(lines > 100_000, "{lines} lines");
 }
 
 #[test]

@@ -1,12 +1,12 @@
 //! Scripts there and back, and what the generator of scripts gives.
 
-use independent::compare_scripts::{note_points, POINTS};
-use independent::convert::{to_text, to_trace};
-use independent::counts::Counts;
+use independent::compare::coverage::Coverage;
+use independent::compare::scripts::{note_points, CONVERTERS};
 use independent::generate::scripts::{numbered, Case, Job, Kind};
-use independent::player::end_state;
-use independent::refusal::Refusal;
-use independent::writei2c::LONGEST_LINE;
+use independent::model::convert::{to_text, to_trace};
+use independent::model::player::end_state;
+use independent::model::refusal::Refusal;
+use independent::model::script_line::LONGEST_LINE;
 
 fn cases(seed: u64) -> impl Iterator<Item = Case> {
     (0..2500).map(move |number| numbered(seed, number))
@@ -41,8 +41,8 @@ fn the_trace_of_a_text_is_the_one_of_its_own_text() {
         let Ok(trace) = to_trace(address, &text) else {
             continue;
         };
-        let tidy = to_text(&trace).unwrap();
-        assert_eq!(to_trace(address, &tidy).unwrap(), trace);
+        let plain = to_text(&trace).unwrap();
+        assert_eq!(to_trace(address, &plain).unwrap(), trace);
         turned += 1;
     }
     assert!(turned > 250);
@@ -50,18 +50,22 @@ fn the_trace_of_a_text_is_the_one_of_its_own_text() {
 
 #[test]
 fn wrong_lines_are_refused_14() {
+    let mut refusals = 0;
     for case in cases(5).filter(|case| case.wrong.is_some()) {
         let Job::Trace { address, text } = case.job else {
             panic!("a wrong line is a text");
         };
         let refused = to_trace(address, &text).unwrap_err();
         assert_eq!(refused.refusal, Refusal::LineShape, "{:?}", case.wrong);
+        refusals += 1;
     }
+    assert!(refusals > 200, "{refusals} wrong lines");
 }
 
 #[test]
 fn right_lines_are_taken() {
     let is_right = |case: &Case| matches!(case.kind, Kind::Right | Kind::Sample);
+    let mut taken = 0;
     for case in cases(6).filter(is_right) {
         let Job::Trace { address, text } = case.job else {
             panic!("right lines are a text");
@@ -69,7 +73,9 @@ fn right_lines_are_taken() {
         let longest = text.split(|&byte| byte == b'\n').map(<[u8]>::len).max();
         assert!(longest <= Some(LONGEST_LINE));
         assert!(to_trace(address, &text).is_ok());
+        taken += 1;
     }
+    assert!(taken > 150, "{taken} right texts");
 }
 
 #[test]
@@ -83,10 +89,10 @@ fn the_same_seed_gives_the_same_cases() {
 #[test]
 fn every_point_is_reached_whatever_the_seed() {
     for seed in [964, 0, 1, u64::MAX] {
-        let mut counts = Counts::default();
+        let mut coverage = Coverage::new(CONVERTERS.points);
         for number in 0..2500 {
-            note_points(&mut counts, seed, number);
+            note_points(&mut coverage, seed, number);
         }
-        assert_eq!(counts.missing(POINTS), Vec::<&str>::new(), "seed {seed}");
+        assert_eq!(coverage.missing(CONVERTERS.points), [""; 0], "seed {seed}");
     }
 }

@@ -1,9 +1,9 @@
 //! Unpacking: the cases, the borders, the order of the refusals, what stays, and both round trips.
 
-use independent::frames::Format;
-use independent::pixels::{pack, payload_length, unpack};
-use independent::refusal::Refusal;
-use independent::rng::Rng;
+use independent::generate::rng::Rng;
+use independent::model::format::Format;
+use independent::model::pixels::{pack, payload_length, unpack};
+use independent::model::refusal::Refusal;
 
 /// Bits of a pixel, pixels of a group, bytes of a group.
 const FORMATS: [(u8, usize, usize); 2] = [(10, 4, 5), (12, 2, 3)];
@@ -65,7 +65,7 @@ fn every_format() {
 }
 
 #[test]
-fn every_length_up_to_behind_the_limit() {
+fn every_length_up_to_beyond_the_limit() {
     for (bits, pixels, bytes) in FORMATS {
         for length in 0..6200 {
             let groups = length / bytes;

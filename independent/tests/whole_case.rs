@@ -1,7 +1,12 @@
-//! Document 01's whole case: the bytes typed out here, the lines exactly as it prints them.
+//! Document 01's whole case: the bytes typed out here, the lines exactly as it prints them. The
+//! model is compiled here by itself, so it needs nothing else of this package.
 
-use independent::generate::whole_case;
-use independent::player::{text_of, Totals, Unwatched};
+#[allow(dead_code)]
+#[path = "../src/model/mod.rs"]
+mod model;
+
+use independent::generate::samples::whole_case;
+use model::player::{text_of, Totals, Unwatched};
 
 const TRACE: &[u8] = &[
     0x9A, 0x64, 0x00, 1, 0x3D, //

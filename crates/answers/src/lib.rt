@@ -1,19 +1,30 @@
 // What the records of a trace are answered, and whether that is a refusal.
 ghost use mathlib.Core.Path.{_≡_};
 ghost use Rattle.laws.specs.Reply.{isRefused};
-ghost use Rattle.answers.specs.Lines.{answerReply};
-use crate::event::Header;
-use frames::end::EndAnswer;
-use frames::line::LineAnswer;
-use frames::start::StartAnswer;
+ghost use Rattle.answers.specs.Answers.{answerReply};
+use frames::EventAnswer;
 use hub::CreationAnswer;
 use translation::ReadAnswer;
 use translation::WriteAnswer;
 
-pub mod event;
 mod refused;
 
-// What a record was answered.
+// The four bytes of a packet header.
+pub struct Header {
+    pub data_identifier: u8,
+    pub word_count_low: u8,
+    pub word_count_high: u8,
+    pub check_byte: u8,
+}
+
+// The frame events.
+pub enum EventKind {
+    Start,
+    PixelLine,
+    End,
+}
+
+// What a record was answered; a frame event with the header of its packet, where one was sent.
 pub enum RecordAnswer {
     NoRecord,
     Hub {
@@ -36,19 +47,10 @@ pub enum RecordAnswer {
         address: u8,
         answer: ReadAnswer,
     },
-    Start {
+    FrameEvent {
+        event: EventKind,
         port: u8,
-        answer: StartAnswer,
-        header: Header,
-    },
-    FrameLine {
-        port: u8,
-        answer: LineAnswer,
-        header: Header,
-    },
-    End {
-        port: u8,
-        answer: EndAnswer,
+        answer: EventAnswer,
         header: Header,
     },
 }
@@ -70,20 +72,11 @@ pub fn is_refused(reply: RecordAnswer) -> bool
         } => false,
         RecordAnswer::WriteQuestion { address: _, answer } => refused::write_refused(answer),
         RecordAnswer::ReadQuestion { address: _, answer } => refused::read_refused(answer),
-        RecordAnswer::Start {
+        RecordAnswer::FrameEvent {
+            event: _,
             port: _,
             answer,
             header: _,
-        } => refused::event_refused(event::of_start(answer)),
-        RecordAnswer::FrameLine {
-            port: _,
-            answer,
-            header: _,
-        } => refused::event_refused(event::of_line(answer)),
-        RecordAnswer::End {
-            port: _,
-            answer,
-            header: _,
-        } => refused::event_refused(event::of_end(answer)),
+        } => refused::event_refused(answer),
     }
 }

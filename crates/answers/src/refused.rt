@@ -2,8 +2,9 @@
 ghost use mathlib.Core.Path.{_≡_};
 ghost use Rattle.laws.specs.Reply.{isRefused};
 ghost use Rattle.translation.specs.Translation.{writeReply, readReply};
-ghost use Rattle.answers.specs.Lines.{hubLine, eventAnswerReply};
-use crate::event::EventAnswer;
+ghost use Rattle.frames.specs.Events.{eventAnswerReply};
+ghost use Rattle.answers.specs.Answers.{hubReply};
+use frames::EventAnswer;
 use hub::CreationAnswer;
 use translation::ReadAnswer;
 use translation::WriteAnswer;
@@ -14,7 +15,7 @@ pub(crate) fn write_refused(answer: WriteAnswer) -> bool
     match answer {
         WriteAnswer::AddressAbove7F => true,
         WriteAnswer::Hub => false,
-        WriteAnswer::Nobody => false,
+        WriteAnswer::NoDevice => false,
         WriteAnswer::Devices(_) => false,
     }
 }
@@ -26,13 +27,13 @@ pub(crate) fn read_refused(answer: ReadAnswer) -> bool
         ReadAnswer::AddressAbove7F => true,
         ReadAnswer::Unclear => true,
         ReadAnswer::Hub => false,
-        ReadAnswer::Nobody => false,
-        ReadAnswer::Device { port: _, remote: _ } => false,
+        ReadAnswer::NoDevice => false,
+        ReadAnswer::Device(_) => false,
     }
 }
 
 pub(crate) fn hub_refused(address: u8, answer: CreationAnswer) -> bool
-    ensures { λ r. ⌜ r ≡ isRefused (hubLine address answer) ⌝ }
+    ensures { λ r. ⌜ r ≡ isRefused (hubReply address answer) ⌝ }
 {
     match answer {
         CreationAnswer::AddressOutOfRange => true,

@@ -1,24 +1,25 @@
--- A line is read exactly where it is one of the grammar: what is behind blanks, a word, a value and a whole line, each both ways.
+-- A line is read exactly where it is one of the grammar: blanks, a word, a value and a whole line, each both ways.
 -- Assumes nothing.
 use mathlib.Core.Path.{_≡_, refl, ap}
 use mathlib.Core.Bool.{Bool, true, false, cond, _||_, and-eq-true-iff}
 use mathlib.Core.List.{List, [], _∷_, _++_}
 use mathlib.Core.Option.{Option, none, some, Option·some-injective}
-use Prim.Native.Nat.{ℕ, _<_}
-use native.Mathlib.Omega.{arith}
-use borrow.Author.Tests.{ltb-true, ltb-false, lt-ltb, eq-eqb, eqb-true}
+use Prim.Native.Nat.{ℕ}
+use borrow.Author.Tests.{ltb-true, lt-ltb, eq-eqb, eqb-true}
 use lib.Dec.{eqb, ltb}
-use lib.ListN.{length, getD, List·getD-eq-default}
+use lib.ListN.{getD}
 use lib.Seq.{drop-cons}
 use Rattle.laws.specs.Texts.{ascii}
-use Rattle.calls.specs.Calls.{Call}
-use Rattle.calls.specs.Grammar.{all, isBlank, Blanks, digitValue, ValueText, oneDigit, twoDigits, isCommentOrNone, CallLine, Line, blank, called}
-use Rattle.calls.specs.Lines.{afterBlanks, afterWord, behind, digitsRead, valueRead, callIfEnded, callRead, lineRead, LinesTaken}
+use Rattle.laws.proofs.Absurd.{zero-not-one}
+use Rattle.registers.specs.Bursts.{RegisterWrite}
+use Rattle.calls.specs.Grammar.{all, isBlank, Blanks, digitValue, ValueText, oneDigit, twoDigits, isCommentOrNone, CallLine, IsScriptLine, blank, called}
+use Rattle.calls.specs.ScriptLines.{afterBlanks, afterPrefix, afterToken, digitsRead, valueRead, scriptLineEnds, callIfEnded, callRead, scriptLineRead, ScriptLinesTaken}
+use Rattle.calls.proofs.ScanLaws.{digit-inside}
 
 -- what is given under a test is given where the test passes
 tested : {A : Type 0} (test : Bool) {answer : Option A} {found : A} → cond test answer none ≡ some found → (test ≡ true) × (answer ≡ some found)
 tested true e = (refl, e)
-tested false e = let z : _≡_ {A = ℕ} 0 1 = cc in absurd (omega arith)
+tested false e = zero-not-one (cc)
 
 -- blanks are passed over
 blanks-passed : (bytes rest : List ℕ) → all isBlank bytes ≡ true → afterBlanks (bytes ++ rest) ≡ afterBlanks rest
@@ -46,14 +47,14 @@ blanks-found (byte ∷ bytes) = go (isBlank byte) refl (blanks-found bytes)
     go false e found = (noBlanks, rw e)
 
 -- a word in front is taken
-word-taken : (word rest : List ℕ) → afterWord word (word ++ rest) ≡ some rest
-unfolding afterWord
+word-taken : (word rest : List ℕ) → afterPrefix word (word ++ rest) ≡ some rest
+unfolding afterPrefix
 word-taken [] rest = refl
 word-taken (letter ∷ word) rest = rw (eq-eqb letter letter refl) (word-taken word rest)
 
 -- and where it was taken it stood
-word-found : (word text rest : List ℕ) → afterWord word text ≡ some rest → text ≡ word ++ rest
-unfolding afterWord
+word-found : (word text rest : List ℕ) → afterPrefix word text ≡ some rest → text ≡ word ++ rest
+unfolding afterPrefix
 word-found [] text rest e = cc
 word-found (letter ∷ word) [] rest e = cc
 word-found (letter ∷ word) (byte ∷ text) rest e =
@@ -62,17 +63,17 @@ word-found (letter ∷ word) (byte ∷ text) rest e =
     let later = word-found word text rest (k .1) in
     cc
 
--- the same behind blanks, for a word that starts with none
-behind-taken : (blanks : Blanks) (word rest : List ℕ) → afterBlanks (word ++ rest) ≡ word ++ rest
-    → behind word (some (blanks .bytes ++ (word ++ rest))) ≡ some rest
-unfolding behind
-behind-taken blanks word rest h = rw (blanks-passed (blanks .bytes) (word ++ rest) (blanks .blank), h) (word-taken word rest)
+-- the same after blanks, for a word that starts with none
+token-taken : (blanks : Blanks) (word rest : List ℕ) → afterBlanks (word ++ rest) ≡ word ++ rest
+    → afterToken word (some (blanks .bytes ++ (word ++ rest))) ≡ some rest
+unfolding afterToken
+token-taken blanks word rest h = rw (blanks-passed (blanks .bytes) (word ++ rest) (blanks .blank), h) (word-taken word rest)
 
-behind-found : (word : List ℕ) (before : Option (List ℕ)) {rest : List ℕ} → behind word before ≡ some rest
+token-found : (word : List ℕ) (before : Option (List ℕ)) {rest : List ℕ} → afterToken word before ≡ some rest
     → (blanks : Blanks) × (before ≡ some (blanks .bytes ++ (word ++ rest)))
-unfolding behind
-behind-found word none e = (noBlanks, cc)
-behind-found word (some text) {rest} e =
+unfolding afterToken
+token-found word none e = (noBlanks, cc)
+token-found word (some text) {rest} e =
     let found = blanks-found text in
     let next = word-found word (afterBlanks text) rest e in
     (found .0, cc)
@@ -86,7 +87,7 @@ blank-other byte h = go (eqb byte 32) refl h
     go true e k = rw (eqb-true byte 32 e)
     go false e k = rw (eqb-true byte 9 k)
 
--- so no digit comes next where blanks come, and behind them no digit
+-- so no digit comes next where blanks come, and after them no digit
 no-digit : (bytes rest : List ℕ) → all isBlank bytes ≡ true → digitValue (getD rest 0 0) ≡ 16 → digitValue (getD (bytes ++ rest) 0 0) ≡ 16
 no-digit [] rest h e = e
 no-digit (byte ∷ bytes) rest h e = blank-other byte (and-eq-true-iff (isBlank byte) (all isBlank bytes) .0 h .0)
@@ -96,18 +97,9 @@ value-taken : (blanks : Blanks) {text : List ℕ} {value : ℕ} (rest : List ℕ
     → valueRead (some (blanks .bytes ++ (text ++ rest))) ≡ record { value = value; rest = some rest }
 unfolding valueRead digitsRead afterBlanks isBlank
 value-taken blanks rest (oneDigit digit small shape same) h =
-    rw (shape, same, behind-taken blanks (ascii "0x") (digit ∷ rest) refl, lt-ltb (digitValue digit) 16 small, h)
+    rw (shape, same, token-taken blanks (ascii "0x") (digit ∷ rest) refl, lt-ltb (digitValue digit) 16 small, h)
 value-taken blanks rest (twoDigits high low small less shape same) h =
-    rw (shape, same, behind-taken blanks (ascii "0x") (high ∷ low ∷ rest) refl, lt-ltb (digitValue high) 16 small, lt-ltb (digitValue low) 16 less)
-
--- a digit is one of the text's bytes
-digit-inside : (bytes : List ℕ) (k : ℕ) → digitValue (getD bytes k 0) < 16 → k < length bytes
-unfolding digitValue
-digit-inside bytes k h = go (ltb k (length bytes)) refl
-  where
-    go : (b : Bool) → ltb k (length bytes) ≡ b → k < length bytes
-    go true e = ltb-true k (length bytes) e
-    go false e = let none = ap digitValue (List·getD-eq-default bytes 0 {n = k} (ltb-false k (length bytes) e)) in absurd (omega arith)
+    rw (shape, same, token-taken blanks (ascii "0x") (high ∷ low ∷ rest) refl, lt-ltb (digitValue high) 16 small, lt-ltb (digitValue low) 16 less)
 
 -- and where digits were read they stood
 abbrev DigitsAt : Option (List ℕ) → List ℕ → Type 0
@@ -115,7 +107,7 @@ DigitsAt before rest = (digits : List ℕ) × ValueText (ascii "0x" ++ digits) (
 
 digits-found : (before : Option (List ℕ)) (rest : List ℕ) → digitsRead before .rest ≡ some rest → DigitsAt before rest
 unfolding digitsRead
-digits-found none rest e = let z : _≡_ {A = ℕ} 0 1 = cc in absurd (omega arith)
+digits-found none rest e = zero-not-one (cc)
 digits-found (some bytes) rest e = go (ltb (digitValue high) 16) refl (ltb (digitValue low) 16) refl
   where
     high : ℕ
@@ -137,96 +129,96 @@ digits-found (some bytes) rest e = go (ltb (digitValue high) 16) refl (ltb (digi
         let left = rw (p, q) at e in
         let first = drop-cons bytes 0 0 (digit-inside bytes 0 a) in
         (high ∷ [], oneDigit high a refl (rw (p, q)), cc)
-    go false p b q = let left = rw p at e in let z : _≡_ {A = ℕ} 0 1 = cc in absurd (omega arith)
+    go false p b q = let left = rw p at e in zero-not-one (cc)
 
 value-found : (before : Option (List ℕ)) {rest : List ℕ} → valueRead before .rest ≡ some rest
     → (blanks : Blanks) × (text : List ℕ) × ValueText text (valueRead before .value) × (before ≡ some (blanks .bytes ++ (text ++ rest)))
 unfolding valueRead
 value-found before {rest} e =
-    let found = digits-found (behind (ascii "0x") before) rest e in
-    let mark = behind-found (ascii "0x") before (found .2) in
+    let found = digits-found (afterToken (ascii "0x") before) rest e in
+    let mark = token-found (ascii "0x") before (found .2) in
     (mark .0, ascii "0x" ++ found .0, found .1, mark .1)
 
 -- blanks, and perhaps a comment, end a line
-comment-taken : (blanks : Blanks) (comment : List ℕ) → isCommentOrNone comment ≡ true → isCommentOrNone (afterBlanks (blanks .bytes ++ comment)) ≡ true
+comment-taken : (blanks : Blanks) (comment : List ℕ) → isCommentOrNone comment ≡ true → scriptLineEnds (blanks .bytes ++ comment) ≡ true
 unfolding afterBlanks isBlank
 comment-taken blanks [] h = rw (blanks-passed (blanks .bytes) [] (blanks .blank))
 comment-taken blanks (byte ∷ bytes) h = rw (eqb-true byte 35 h, blanks-passed (blanks .bytes) (35 ∷ bytes) (blanks .blank))
 
--- and where a line ended behind its call they stood
-end-found : (before : Option (List ℕ)) (call : Call) (calls : List Call) → callIfEnded before call ≡ some calls
+-- and where a line ended after its call they stood
+end-found : (before : Option (List ℕ)) (call : RegisterWrite) (calls : List RegisterWrite) → callIfEnded before call ≡ some calls
     → (blanks : Blanks) × (comment : List ℕ) × (isCommentOrNone comment ≡ true) × (before ≡ some (blanks .bytes ++ comment)) × (calls ≡ call ∷ [])
 unfolding callIfEnded
-end-found none call calls e = let z : _≡_ {A = ℕ} 0 1 = cc in absurd (omega arith)
+end-found none call calls e = zero-not-one (cc)
 end-found (some text) call calls e =
-    let k = tested (isCommentOrNone (afterBlanks text)) e in
+    let k = tested (scriptLineEnds text) e in
     let found = blanks-found text in
     (found .0, afterBlanks text, k .0, cc, cc)
 
 -- a line with a call is taken: stage by stage from its start
-call-taken : (line : List ℕ) (call : Call) → CallLine line call → lineRead line ≡ some (call ∷ [])
-unfolding lineRead callRead callIfEnded afterBlanks isBlank digitValue
+call-taken : (line : List ℕ) (call : RegisterWrite) → CallLine line call → scriptLineRead line ≡ some (call ∷ [])
+unfolding scriptLineRead callRead callIfEnded afterBlanks isBlank digitValue
 call-taken line call c =
-    let atEnd = c .behindClosing .bytes ++ c .comment in
+    let atEnd = c .afterClosing .bytes ++ c .comment in
     let atClosing = ascii ")" ++ atEnd in
-    let atValue = c .value ++ (c .behindValue .bytes ++ atClosing) in
-    let atComma = ascii "," ++ (c .behindComma .bytes ++ atValue) in
-    let atOffset = c .offset ++ (c .behindOffset .bytes ++ atComma) in
-    let atOpening = ascii "(" ++ (c .behindOpening .bytes ++ atOffset) in
-    let atWord = ascii "WriteI2C" ++ (c .behindWord .bytes ++ atOpening) in
+    let atValue = c .value ++ (c .afterValue .bytes ++ atClosing) in
+    let atComma = ascii "," ++ (c .afterComma .bytes ++ atValue) in
+    let atOffset = c .offset ++ (c .afterOffset .bytes ++ atComma) in
+    let atOpening = ascii "(" ++ (c .afterOpening .bytes ++ atOffset) in
+    let atWord = ascii "WriteI2C" ++ (c .afterName .bytes ++ atOpening) in
     rw (
       c .shape,
       blanks-passed (c .atStart .bytes) atWord (c .atStart .blank),
-      behind-taken (c .atStart) (ascii "WriteI2C") (c .behindWord .bytes ++ atOpening) refl,
-      behind-taken (c .behindWord) (ascii "(") (c .behindOpening .bytes ++ atOffset) refl,
-      value-taken (c .behindOpening) (c .behindOffset .bytes ++ atComma) (c .offsetShape) (no-digit (c .behindOffset .bytes) atComma (c .behindOffset .blank) refl),
-      behind-taken (c .behindOffset) (ascii ",") (c .behindComma .bytes ++ atValue) refl,
-      value-taken (c .behindComma) (c .behindValue .bytes ++ atClosing) (c .valueShape) (no-digit (c .behindValue .bytes) atClosing (c .behindValue .blank) refl),
-      behind-taken (c .behindValue) (ascii ")") atEnd refl,
-      comment-taken (c .behindClosing) (c .comment) (c .commented),
+      token-taken (c .atStart) (ascii "WriteI2C") (c .afterName .bytes ++ atOpening) refl,
+      token-taken (c .afterName) (ascii "(") (c .afterOpening .bytes ++ atOffset) refl,
+      value-taken (c .afterOpening) (c .afterOffset .bytes ++ atComma) (c .offsetShape) (no-digit (c .afterOffset .bytes) atComma (c .afterOffset .blank) refl),
+      token-taken (c .afterOffset) (ascii ",") (c .afterComma .bytes ++ atValue) refl,
+      value-taken (c .afterComma) (c .afterValue .bytes ++ atClosing) (c .valueShape) (no-digit (c .afterValue .bytes) atClosing (c .afterValue .blank) refl),
+      token-taken (c .afterValue) (ascii ")") atEnd refl,
+      comment-taken (c .afterClosing) (c .comment) (c .commented),
     )
 
 -- and where a call was read a line with a call stood: stage by stage from its end
-call-found : (line : List ℕ) (calls : List Call) → callRead line ≡ some calls → Line line calls
+call-found : (line : List ℕ) (calls : List RegisterWrite) → callRead line ≡ some calls → IsScriptLine line calls
 unfolding callRead
 call-found line calls e =
     let end = end-found _ _ calls e in
-    let closing = behind-found (ascii ")") _ (end .3) in
+    let closing = token-found (ascii ")") _ (end .3) in
     let value = value-found _ (closing .1) in
-    let comma = behind-found (ascii ",") _ (value .3) in
+    let comma = token-found (ascii ",") _ (value .3) in
     let offset = value-found _ (comma .1) in
-    let opening = behind-found (ascii "(") _ (offset .3) in
-    let word = behind-found (ascii "WriteI2C") _ (opening .1) in
+    let opening = token-found (ascii "(") _ (offset .3) in
+    let word = token-found (ascii "WriteI2C") _ (opening .1) in
     rw (end .4)
     (called
     (record {
       atStart = word .0;
-      behindWord = opening .0;
-      behindOpening = offset .0;
+      afterName = opening .0;
+      afterOpening = offset .0;
       offset = offset .1;
       offsetShape = offset .2;
-      behindOffset = comma .0;
-      behindComma = value .0;
+      afterOffset = comma .0;
+      afterComma = value .0;
       value = value .1;
       valueShape = value .2;
-      behindValue = closing .0;
-      behindClosing = end .0;
+      afterValue = closing .0;
+      afterClosing = end .0;
       comment = end .1;
       commented = end .2;
       shape = Option·some-injective _ _ (word .1);
     }))
 
 -- a line of either kind
-line-taken : {line : List ℕ} {calls : List Call} → Line line calls → lineRead line ≡ some calls
-unfolding lineRead
+line-taken : {line : List ℕ} {calls : List RegisterWrite} → IsScriptLine line calls → scriptLineRead line ≡ some calls
+unfolding scriptLineRead
 line-taken (blank b) = rw (b .shape, comment-taken (b .blanks) (b .comment) (b .commented))
 line-taken (called c) = call-taken _ _ c
 
-line-found : (line : List ℕ) (calls : List Call) → lineRead line ≡ some calls → Line line calls
-unfolding lineRead
-line-found line calls e = go (isCommentOrNone (afterBlanks line)) refl
+line-found : (line : List ℕ) (calls : List RegisterWrite) → scriptLineRead line ≡ some calls → IsScriptLine line calls
+unfolding scriptLineRead
+line-found line calls e = go (scriptLineEnds line) refl
   where
-    go : (b : Bool) → isCommentOrNone (afterBlanks line) ≡ b → Line line calls
+    go : (b : Bool) → scriptLineEnds line ≡ b → IsScriptLine line calls
     go true p =
         let found = blanks-found line in
         let left = rw p at e in
@@ -234,5 +226,5 @@ line-found line calls e = go (isCommentOrNone (afterBlanks line)) refl
         rw none (blank (record { blanks = found .0; comment = afterBlanks line; commented = p; shape = found .1 }))
     go false p = call-found line calls (rw p at e)
 
-pub lines-taken : (line : List ℕ) (calls : List Call) → LinesTaken line calls
+pub lines-taken : (line : List ℕ) (calls : List RegisterWrite) → ScriptLinesTaken line calls
 lines-taken line calls = record { every = line-taken; only = line-found line calls }

@@ -7,9 +7,9 @@ use lib.ListN.{drop}
 use Rattle.calls.specs.declared.scan.Scan.{Scan}
 use Rattle.calls.specs.declared.scan.Scan.the-variants.{Failed, At}
 use Rattle.calls.specs.declared.scan.ValueScan.{ValueScan}
-use Rattle.calls.specs.Lines.{ValueAndRest}
+use Rattle.calls.specs.ScriptLines.{ValueAndRest}
 
--- what stands behind the place of a reading
+-- what is left of the line where the reading stands
 abbrev pub restAt : List ℕ → Scan → Option (List ℕ)
 restAt line Failed = none
 restAt line (At place) = some (drop place line)

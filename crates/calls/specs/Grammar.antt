@@ -1,4 +1,4 @@
--- What a line of a script is: the grammar of L1, sentence by sentence.
+-- What a script line is: the grammar of L1, sentence by sentence.
 -- Assumes nothing.
 use mathlib.Core.Path.{_≡_}
 use mathlib.Core.Bool.{Bool, true, cond, _&&_, _||_}
@@ -6,7 +6,7 @@ use mathlib.Core.List.{List, [], _∷_, _++_}
 use Prim.Native.Nat.{ℕ, _+_, _*_, _-_, _<_}
 use lib.Dec.{eqb, leb}
 use Rattle.laws.specs.Texts.{ascii}
-use Rattle.calls.specs.Calls.{Call}
+use Rattle.registers.specs.Bursts.{RegisterWrite}
 
 -- every byte of a text passes a test
 abbrev pub all : (ℕ → Bool) → List ℕ → Bool
@@ -22,7 +22,8 @@ pub record Blanks : Type 0 where
   pub bytes : List ℕ
   pub blank : all isBlank bytes ≡ true
 
--- "hex digits in either case": the value of a digit 0 to 9 (from code 48), A to F (from code 65) or a to f (from code 97); 16 for any other byte
+-- "hex digits in either case": the value of a digit 0 to 9 (from code 48), A to F (from code 65) or a to f
+-- (from code 97); 16 for any other byte
 unfoldable pub digitValue : ℕ → ℕ
 digitValue byte =
     cond (leb 48 byte && leb byte 57) (byte - 48)
@@ -32,12 +33,13 @@ digitValue byte =
 
 -- "each 0x and one or two hex digits in either case" (ours: only a small x)
 pub data ValueText (text : List ℕ) (value : ℕ) : Type 0 where
-  oneDigit : (digit : ℕ) → digitValue digit < 16 → text ≡ ascii "0x" ++ (digit ∷ []) → value ≡ digitValue digit → ValueText text value
-  twoDigits : (high low : ℕ) → digitValue high < 16 → digitValue low < 16 → text ≡ ascii "0x" ++ (high ∷ low ∷ [])
-      → value ≡ 16 * digitValue high + digitValue low → ValueText text value
+  oneDigit : (digit : ℕ) → digitValue digit < 16
+      → text ≡ ascii "0x" ++ (digit ∷ []) → value ≡ digitValue digit → ValueText text value
+  twoDigits : (high low : ℕ) → digitValue high < 16 → digitValue low < 16
+      → text ≡ ascii "0x" ++ (high ∷ low ∷ []) → value ≡ 16 * digitValue high + digitValue low → ValueText text value
 
--- "either with or without a comment after it", "comments from # to the line's end": nothing, or # (code 35) and whatever follows (ours: a
--- carriage return too)
+-- "either with or without a comment after it", "comments from # to the line's end": nothing, or # (code 35) and
+-- whatever follows (ours: a carriage return too)
 abbrev pub isCommentOrNone : List ℕ → Bool
 isCommentOrNone [] = true
 isCommentOrNone (byte ∷ bytes) = eqb byte 35
@@ -49,28 +51,29 @@ pub record BlankLine (line : List ℕ) : Type 0 where
   pub commented : isCommentOrNone comment ≡ true
   pub shape : line ≡ blanks .bytes ++ comment
 
--- "or one call": "a call has the word WriteI2C and two values [...] spaces and tabs allowed around each word, value, bracket and comma"
-pub record CallLine (line : List ℕ) (call : Call) : Type 0 where
+-- "or one call": "a call has the word WriteI2C and two values [...] spaces and tabs allowed around each word, value,
+-- bracket and comma"
+pub record CallLine (line : List ℕ) (call : RegisterWrite) : Type 0 where
   pub atStart : Blanks
-  pub behindWord : Blanks
-  pub behindOpening : Blanks
+  pub afterName : Blanks
+  pub afterOpening : Blanks
   pub offset : List ℕ
   pub offsetShape : ValueText offset (call .offset)
-  pub behindOffset : Blanks
-  pub behindComma : Blanks
+  pub afterOffset : Blanks
+  pub afterComma : Blanks
   pub value : List ℕ
   pub valueShape : ValueText value (call .value)
-  pub behindValue : Blanks
-  pub behindClosing : Blanks
+  pub afterValue : Blanks
+  pub afterClosing : Blanks
   pub comment : List ℕ
   pub commented : isCommentOrNone comment ≡ true
   pub shape : line
-      ≡ atStart .bytes ++ (ascii "WriteI2C" ++ (behindWord .bytes
-      ++ (ascii "(" ++ (behindOpening .bytes ++ (offset ++ (behindOffset .bytes
-      ++ (ascii "," ++ (behindComma .bytes ++ (value ++ (behindValue .bytes
-      ++ (ascii ")" ++ (behindClosing .bytes ++ comment))))))))))))
+      ≡ atStart .bytes ++ (ascii "WriteI2C" ++ (afterName .bytes
+      ++ (ascii "(" ++ (afterOpening .bytes ++ (offset ++ (afterOffset .bytes
+      ++ (ascii "," ++ (afterComma .bytes ++ (value ++ (afterValue .bytes
+      ++ (ascii ")" ++ (afterClosing .bytes ++ comment))))))))))))
 
 -- a line of either kind, with its calls: none or one
-pub data Line (line : List ℕ) : List Call → Type 0 where
-  blank : BlankLine line → Line line []
-  called : {call : Call} → CallLine line call → Line line (call ∷ [])
+pub data IsScriptLine (line : List ℕ) : List RegisterWrite → Type 0 where
+  blank : BlankLine line → IsScriptLine line []
+  called : {call : RegisterWrite} → CallLine line call → IsScriptLine line (call ∷ [])

@@ -1,4 +1,3 @@
-pub mod Calls
 pub mod Grammar
-pub mod Lines
+pub mod ScriptLines
 pub mod Contracts

@@ -1,11 +1,10 @@
 // Hex digits in either case.
 ghost use mathlib.Core.Path.{_≡_};
-ghost use Prim.Native.Nat.{_≤_};
 ghost use Rattle.calls.specs.Grammar.{digitValue};
 
 // The value of a hex digit, and 16 for any other byte.
 pub fn value(byte: u8) -> u8
-    ensures { λ r. ⌜ (r ≡ digitValue byte) × (r ≤ 16) ⌝ }
+    ensures { λ r. ⌜ r ≡ digitValue byte ⌝ }
 {
     match byte {
         48..=57 => byte - 48,

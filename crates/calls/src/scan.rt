@@ -1,10 +1,10 @@
-// The tokens of a line, each behind spaces and tabs: a word, a value, and the line's end.
+// The tokens of a line, each after spaces and tabs: a word, a value, and the line's end.
 ghost use mathlib.Core.Path.{_≡_};
 ghost use mathlib.Core.Option.{some};
-ghost use Prim.Native.Nat.{_≤_, _<_};
-ghost use lib.ListN.{length, getD, drop};
-ghost use Rattle.calls.specs.Grammar.{isBlank, digitValue, isCommentOrNone};
-ghost use Rattle.calls.specs.Lines.{afterBlanks, afterWord, behind, digitsRead, valueRead};
+ghost use lib.ListN.{getD, drop};
+ghost use Rattle.calls.specs.Grammar.{isBlank, digitValue};
+ghost use Rattle.calls.specs.ScriptLines.{afterBlanks, afterPrefix, afterToken, digitsRead, valueRead};
+ghost use Rattle.calls.specs.ScriptLines.{scriptLineEnds};
 ghost use Rattle.calls.specs.Contracts.{restAt, valueAt};
 use crate::digit;
 
@@ -14,7 +14,7 @@ pub(crate) enum Scan {
     At(usize),
 }
 
-// A value, and where the reading stands behind it.
+// A value, and where the reading stands after it.
 pub(crate) struct ValueScan {
     pub value: u8,
     pub next: Scan,
@@ -29,7 +29,7 @@ fn is_blank(byte: u8) -> bool
     byte == b'\t'
 }
 
-// The place behind spaces and tabs.
+// The place after spaces and tabs.
 pub(crate) fn after_blanks(line: &[u8], at: usize) -> usize
     ensures { λ r. ⌜ drop r (now (line .entry)) ≡ afterBlanks (drop at (now (line .entry))) ⌝ }
 {
@@ -43,9 +43,9 @@ pub(crate) fn after_blanks(line: &[u8], at: usize) -> usize
     place
 }
 
-// The place behind a word, where it stands there.
-fn after_word(line: &[u8], at: usize, word: &[u8]) -> Scan
-    ensures { λ r. ⌜ restAt (now (line .entry)) r ≡ afterWord (now (word .entry)) (drop at (now (line .entry))) ⌝ }
+// The place after a word, where the word stands there.
+fn after_prefix(line: &[u8], at: usize, word: &[u8]) -> Scan
+    ensures { λ r. ⌜ restAt (now (line .entry)) r ≡ afterPrefix (now (word .entry)) (drop at (now (line .entry))) ⌝ }
 {
     let mut place = at;
     let mut i = 0;
@@ -62,24 +62,21 @@ fn after_word(line: &[u8], at: usize, word: &[u8]) -> Scan
     Scan::At(place)
 }
 
-// A word behind spaces and tabs.
+// A word after spaces and tabs.
 pub(crate) fn expect(line: &[u8], scan: Scan, word: &[u8]) -> Scan
-    ensures { λ r. ⌜ restAt (now (line .entry)) r ≡ behind (now (word .entry)) (restAt (now (line .entry)) scan) ⌝ }
+    ensures { λ r. ⌜ restAt (now (line .entry)) r ≡ afterToken (now (word .entry)) (restAt (now (line .entry)) scan) ⌝ }
 {
     match scan {
         Scan::Failed => Scan::Failed,
-        Scan::At(at) => after_word(line, after_blanks(line, at), word),
+        Scan::At(at) => after_prefix(line, after_blanks(line, at), word),
     }
 }
 
 // The value of the hex digit at a place, and 16 where none stands there.
 fn digit_at(line: &[u8], at: usize) -> u8
-    ensures { λ r. ⌜ (r ≡ digitValue (getD (now (line .entry)) at 0)) × (r ≤ 16) × (r < 16 → at < length (now (line .entry))) ⌝ }
+    ensures { λ r. ⌜ r ≡ digitValue (getD (now (line .entry)) at 0) ⌝ }
 {
-    if line.len() <= at {
-        return 16;
-    }
-    digit::value(line[at])
+    digit::value(buffers::byte_at(line, at))
 }
 
 // One or two hex digits.
@@ -106,7 +103,7 @@ fn read_digits(line: &[u8], at: usize) -> ValueScan
     }
 }
 
-// A value behind spaces and tabs: 0x, and one or two hex digits.
+// A value after spaces and tabs: 0x, and one or two hex digits.
 pub(crate) fn read_value(line: &[u8], scan: Scan) -> ValueScan
     ensures { λ r. ⌜ valueAt (now (line .entry)) r ≡ valueRead (restAt (now (line .entry)) scan) ⌝ }
 {
@@ -119,12 +116,13 @@ pub(crate) fn read_value(line: &[u8], scan: Scan) -> ValueScan
     }
 }
 
-// Whether nothing, or a comment, stands from the place on.
-pub(crate) fn is_comment_or_none(line: &[u8], at: usize) -> bool
-    ensures { λ r. ⌜ r ≡ isCommentOrNone (drop at (now (line .entry))) ⌝ }
+// Whether the line ends at the place, but for spaces, tabs and a comment.
+pub(crate) fn ends(line: &[u8], at: usize) -> bool
+    ensures { λ r. ⌜ r ≡ scriptLineEnds (drop at (now (line .entry))) ⌝ }
 {
-    if line.len() <= at {
+    let place = after_blanks(line, at);
+    if line.len() <= place {
         return true;
     }
-    line[at] == b'#'
+    line[place] == b'#'
 }

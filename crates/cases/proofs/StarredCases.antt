@@ -5,8 +5,10 @@ use Rattle.laws.specs.Bits.{bit}
 use Rattle.laws.specs.MaskedWrites.{masked}
 use Rattle.laws.specs.Tables.{tabulate, tabulateFrom}
 use Rattle.registers.specs.RegisterMap.{rows, rowIn, resetOf, maskOf, perPort}
-use Rattle.registers.specs.RegisterFiles.{pageResetAt, resetFile, writeShared, writePage, writePorts, writeRegister, writeBurst, readRegister}
-use Rattle.hub.specs.Hubs.{hubAt, hubBurst, hubRead}
+use Rattle.registers.specs.RegisterFiles.{pageResetAt, resetFile, readRegister}
+use Rattle.registers.specs.RegisterFiles.{writeShared, writePage, writePorts, writeRegister}
+use Rattle.registers.specs.Bursts.{burstWrites, writeEach, writeBurst}
+use Rattle.hub.specs.Hubs.{hubWith, hubBurst, hubRead}
 use Rattle.ecc.specs.CheckBytes.{onesAmong, checkByte}
 use Rattle.ecc.specs.HeaderCorrection.{isRight, correctFrom, correctionOf}
 use Rattle.laws.specs.Groups.{groups}
@@ -15,7 +17,9 @@ use Rattle.reader.specs.Reader.{readBody, readPacket}
 use Rattle.cases.specs.StarredCases.{StarredCases}
 
 pub starred-cases : StarredCases
-unfolding bit masked tabulate tabulateFrom rows rowIn resetOf maskOf perPort pageResetAt resetFile writeShared writePage writePorts writeRegister writeBurst readRegister hubAt hubBurst hubRead onesAmong checkByte isRight correctFrom correctionOf readBody readPacket groups packGroup payloadOf
+unfolding bit masked tabulate tabulateFrom rows rowIn resetOf maskOf perPort pageResetAt resetFile writeShared
+    writePage writePorts writeRegister burstWrites writeEach writeBurst readRegister hubWith hubBurst hubRead
+    onesAmong checkByte isRight correctFrom correctionOf readBody readPacket groups packGroup payloadOf
 starred-cases =
     record {
       csiSpeed = refl;

@@ -7,10 +7,11 @@ use Rattle.laws.specs.Reply.{refused, given}
 use Rattle.formats.specs.declared.Format.the-variants.{Raw10, Raw12}
 use Rattle.hub.specs.declared.Hub.{Hub}
 use Rattle.hub.specs.Hubs.{hubAt, hubBurst, hubRead}
+use Rattle.ecc.specs.declared.Corrected.{Corrected}
 use Rattle.ecc.specs.declared.Corrected.the-variants.{HeaderBit}
 use Rattle.ecc.specs.CheckBytes.{checkByte}
 use Rattle.packing.specs.Raw.{payloadOf}
-use Rattle.reader.specs.Reader.{readPacket}
+use Rattle.reader.specs.Reader.{Packet, readPacket}
 
 -- a hub after reset
 abbrev reset : Hub
@@ -19,6 +20,10 @@ reset = hubAt 0x3D
 -- a hub after one register write
 abbrev write : ℕ → ℕ → Hub
 write offset value = hubBurst reset offset (value ∷ [])
+
+-- the packet 40 01 00
+abbrev frameStart : Corrected → Packet
+frameStart corrected = record { dataIdentifier = 0x40; wordCount = 0x0001; corrected = corrected }
 
 pub record StarredCases : Type 0 where
   -- "0x1F after writing FF reads 03; 0xB6 reads 38; 0x4C reads 3F."
@@ -32,8 +37,8 @@ pub record StarredCases : Type 0 where
   pub zeroHeader : checkByte 0x000000 ≡ 0x00
   pub startHeader : checkByte 0x000140 ≡ 0x0C
   -- "Read 41 01 00 0C: taken as 40 01 00. 40 01 00 4C likewise. 40 01 00 0F: refusal 10."
-  pub identifierBit : readPacket (0x41 ∷ 0x01 ∷ 0x00 ∷ 0x0C ∷ []) ≡ given (record { dataIdentifier = 0x40; wordCount = 0x0001; corrected = HeaderBit 0 })
-  pub checkBit : readPacket (0x40 ∷ 0x01 ∷ 0x00 ∷ 0x4C ∷ []) ≡ given (record { dataIdentifier = 0x40; wordCount = 0x0001; corrected = HeaderBit 30 })
+  pub identifierBit : readPacket (0x41 ∷ 0x01 ∷ 0x00 ∷ 0x0C ∷ []) ≡ given (frameStart (HeaderBit 0))
+  pub checkBit : readPacket (0x40 ∷ 0x01 ∷ 0x00 ∷ 0x4C ∷ []) ≡ given (frameStart (HeaderBit 30))
   pub twoBits : readPacket (0x40 ∷ 0x01 ∷ 0x00 ∷ 0x0F ∷ []) ≡ refused 10
   -- "RAW10 3FF, 0, 0, 1 gives FF 00 00 00 43. RAW12 ABC, 123 gives AB 12 3C."
   pub raw10 : payloadOf Raw10 (0x3FF ∷ 0 ∷ 0 ∷ 1 ∷ []) ≡ 0xFF ∷ 0x00 ∷ 0x00 ∷ 0x00 ∷ 0x43 ∷ []

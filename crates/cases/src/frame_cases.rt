@@ -1,33 +1,33 @@
 // The case on frame numbers: with the largest number 4 the starts carry 1, 2, 3, 4, 1.
 use crate::print;
+use crate::register_cases;
 use frames::end;
 use frames::start;
 use hub::Hub;
 
-fn print_number(low: u8, high: u8) {
-    print::decimal((low as u64) + 256 * (high as u64));
+// Starts a frame of port 0, and prints the number that its start carries.
+fn start_frame(hub: Hub) -> Hub {
+    let mut packet = [0u8; 4];
+    let started = start::start(hub, 0, 10, &mut packet, 0);
+    print::decimal(buffers::two_bytes(packet[1], packet[2]) as u64);
+    started.hub
 }
 
-// One frame of port 0; prints the number that its start carries.
-fn frame(hub: Hub, buf: &mut [u8]) -> Hub {
-    let started = start::start(hub, 0, 10, buf, 0);
-    let opened = started.hub;
-    if 4 <= buf.len() {
-        print_number(buf[1], buf[2]);
-    }
-    let ended = end::end(opened, 0, buf, 0);
+// One frame of port 0.
+fn frame(hub: Hub) -> Hub {
+    let opened = start_frame(hub);
+    let mut packet = [0u8; 4];
+    let ended = end::end(opened, 0, &mut packet, 0);
     ended.hub
 }
 
-pub fn run(hub: Hub) {
-    let values = [0x00];
-    let forwarding = hub::burst(hub, 0x20, &values);
-    let mut buf = [0u8; 4];
+pub(crate) fn run() {
     print::text(b"frame numbers after reset:");
-    let one = frame(forwarding, &mut buf);
-    let two = frame(one, &mut buf);
-    let three = frame(two, &mut buf);
-    let four = frame(three, &mut buf);
-    frame(four, &mut buf);
+    let mut hub = register_cases::write(register_cases::start(), 0x20, 0x00);
+    hub = frame(hub);
+    hub = frame(hub);
+    hub = frame(hub);
+    hub = frame(hub);
+    frame(hub);
     print::end_line();
 }

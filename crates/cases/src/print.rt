@@ -1,44 +1,45 @@
 // Text on standard output.
+use buffers::text::hex_digit;
 use libc::STDOUT_FILENO;
 
-pub fn text(bytes: &[u8]) {
+pub(crate) fn text(bytes: &[u8]) {
     io::write_all(STDOUT_FILENO, bytes);
 }
 
-pub fn end_line() {
-    text(b"\n");
+pub(crate) fn symbol(byte: u8) {
+    let one = [byte];
+    text(&one);
+}
+
+pub(crate) fn end_line() {
+    symbol(b'\n');
 }
 
 // A number in decimal, after a space.
-pub fn decimal(n: u64) {
-    text(b" ");
+pub(crate) fn decimal(n: u64) {
+    symbol(b' ');
     io::print_decimal(STDOUT_FILENO, n);
 }
 
-// A digit of hexadecimal, in capitals.
-fn digit(d: u8) -> u8 {
-    let low = d % 16;
-    if low < 10 {
-        b'0' + low
-    } else {
-        b'A' + (low - 10)
-    }
+// A number of bytes.
+pub(crate) fn length(bytes: usize) {
+    decimal(bytes as u64);
+    text(b" bytes");
 }
 
-// A number below 10 as one digit.
-pub fn decimal_digit(d: u8) {
-    let digits = [digit(d)];
-    text(&digits);
+// One digit of hexadecimal.
+pub(crate) fn digit(d: u8) {
+    symbol(hex_digit(d));
 }
 
 // A byte as two digits of hexadecimal.
-pub fn byte(b: u8) {
-    let digits = [digit(b / 16), digit(b)];
-    text(&digits);
+pub(crate) fn byte(b: u8) {
+    digit(b / 16);
+    digit(b);
 }
 
 // Bytes as hexadecimal, run together.
-pub fn bytes(all: &[u8]) {
+pub(crate) fn bytes(all: &[u8]) {
     let mut i = 0;
     while i < all.len() {
         byte(all[i]);
@@ -47,7 +48,8 @@ pub fn bytes(all: &[u8]) {
 }
 
 // A refusal: its number after an exclamation mark.
-pub fn refusal(number: u64) {
-    text(b" !");
+pub(crate) fn refusal(number: u64) {
+    symbol(b' ');
+    symbol(b'!');
     decimal(number);
 }

@@ -2,6 +2,7 @@
 use crate::print;
 use hub::CreationAnswer;
 use hub::Hub;
+use registers::PageAccess;
 use translation::Devices;
 use translation::PortDevice;
 use translation::ReadAnswer;
@@ -9,7 +10,7 @@ use translation::Remote;
 use translation::WriteAnswer;
 
 // The hub 0x3D at reset. (A refused address is said, and the case goes on with the hub that stands beside the refusal.)
-pub fn start() -> Hub {
+pub(crate) fn start() -> Hub {
     let made = hub::new(0x3D);
     let answer = made.answer;
     match answer {
@@ -19,57 +20,52 @@ pub fn start() -> Hub {
     made.hub
 }
 
-fn write(hub: Hub, offset: u8, value: u8) -> Hub {
+pub(crate) fn write(hub: Hub, offset: u8, value: u8) -> Hub {
     let values = [value];
     hub::burst(hub, offset, &values)
 }
 
 // The broadcast script of the data sheet, under a selection.
 fn broadcast(selection: u8) -> Hub {
-    let selected = write(start(), 0x4C, selection);
-    let passing = write(selected, 0x58, 0x58);
-    let serializer = write(passing, 0x5C, 0x18);
-    let target = write(serializer, 0x5D, 0x60);
-    write(target, 0x65, 0x60)
+    let mut hub = write(start(), 0x4C, selection);
+    hub = write(hub, 0x58, 0x58);
+    hub = write(hub, 0x5C, 0x18);
+    hub = write(hub, 0x5D, 0x60);
+    write(hub, 0x65, 0x60)
 }
 
 // A port's device as port:address, an s before the address of a serializer.
-fn print_device(port: u8, remote: Remote) {
-    print::text(b" ");
-    print::decimal_digit(port);
-    print::text(b":");
+fn print_device(device: PortDevice) {
+    print::symbol(b' ');
+    print::digit(device.port);
+    print::symbol(b':');
+    let remote = device.remote;
     match remote {
         Remote::Serializer { address } => {
-            print::text(b"s");
+            print::symbol(b's');
             print::byte(address);
         }
         Remote::Target { number: _, address } => print::byte(address),
     }
 }
 
-fn print_port_device(d: PortDevice) {
-    let port = d.port;
-    let remote = d.remote;
-    print_device(port, remote);
-}
-
 fn print_devices(devices: Devices) {
     match devices {
-        Devices::One(a) => print_port_device(a),
+        Devices::One(a) => print_device(a),
         Devices::Two(a, b) => {
-            print_port_device(a);
-            print_port_device(b);
+            print_device(a);
+            print_device(b);
         }
         Devices::Three(a, b, c) => {
-            print_port_device(a);
-            print_port_device(b);
-            print_port_device(c);
+            print_device(a);
+            print_device(b);
+            print_device(c);
         }
         Devices::Four(a, b, c, d) => {
-            print_port_device(a);
-            print_port_device(b);
-            print_port_device(c);
-            print_port_device(d);
+            print_device(a);
+            print_device(b);
+            print_device(c);
+            print_device(d);
         }
     }
 }
@@ -78,10 +74,9 @@ fn print_write(answer: WriteAnswer) {
     match answer {
         WriteAnswer::AddressAbove7F => print::refusal(2),
         WriteAnswer::Hub => print::text(b" hub"),
-        WriteAnswer::Nobody => print::text(b" none"),
+        WriteAnswer::NoDevice => print::text(b" none"),
         WriteAnswer::Devices(devices) => print_devices(devices),
     }
-    print::end_line();
 }
 
 fn print_read(answer: ReadAnswer) {
@@ -89,18 +84,18 @@ fn print_read(answer: ReadAnswer) {
         ReadAnswer::AddressAbove7F => print::refusal(2),
         ReadAnswer::Unclear => print::refusal(9),
         ReadAnswer::Hub => print::text(b" hub"),
-        ReadAnswer::Nobody => print::text(b" none"),
-        ReadAnswer::Device { port, remote } => print_device(port, remote),
+        ReadAnswer::NoDevice => print::text(b" none"),
+        ReadAnswer::Device(device) => print_device(device),
     }
-    print::end_line();
 }
 
 // What the register at `offset` reads after FF was written to it.
 fn print_after_ff(offset: u8) {
+    let read = hub::read(write(start(), offset, 0xFF), offset);
     print::text(b"register ");
     print::byte(offset);
     print::text(b" after FF: ");
-    print::byte(hub::read(write(start(), offset, 0xFF), offset));
+    print::byte(read);
     print::end_line();
 }
 
@@ -116,9 +111,9 @@ fn print_scl_setting(high: u8, low: u8) {
     print::byte(high);
     print::text(b" and ");
     print::byte(low);
-    print::text(b":");
-    let written = registers::write(registers::reset(), 0x0A, high);
-    print_scl_times(registers::write(written, 0x0B, low));
+    print::symbol(b':');
+    let written = registers::write(registers::reset(), PageAccess::Selection, 0x0A, high);
+    print_scl_times(registers::write(written, PageAccess::Selection, 0x0B, low));
 }
 
 // After reset, then the three settings of the data sheet's table 5-14.
@@ -130,19 +125,24 @@ fn print_scl_cases() {
     print_scl_setting(0x06, 0x0C);
 }
 
-pub fn run() {
+// Who hears a write to 30 after the broadcast script, and who answers a read of it.
+fn print_broadcast(name: &[u8], selection: u8) {
+    let hub = broadcast(selection);
+    print::text(name);
+    print::text(b", write to 30:");
+    print_write(translation::who_hears_write(hub, 0x30));
+    print::end_line();
+    print::text(name);
+    print::text(b", read of 30:");
+    print_read(translation::who_answers_read(hub, 0x30));
+    print::end_line();
+}
+
+pub(crate) fn run() {
     print_after_ff(0x1F);
     print_after_ff(0xB6);
     print_after_ff(0x4C);
     print_scl_cases();
-    let all = broadcast(0x0F);
-    print::text(b"broadcast, write to 30:");
-    print_write(translation::who_hears_write(all, 0x30));
-    print::text(b"broadcast, read of 30:");
-    print_read(translation::who_answers_read(all, 0x30));
-    let two = broadcast(0x23);
-    print::text(b"ports 0 and 1, read port 2, write to 30:");
-    print_write(translation::who_hears_write(two, 0x30));
-    print::text(b"ports 0 and 1, read port 2, read of 30:");
-    print_read(translation::who_answers_read(two, 0x30));
+    print_broadcast(b"broadcast", 0x0F);
+    print_broadcast(b"ports 0 and 1, read port 2", 0x23);
 }

@@ -1,2 +1,1 @@
-pub mod InputLaws
-pub mod PrintLaws
+pub mod RoomLaws

@@ -1,2 +1,1 @@
-pub mod Inputs
-pub mod Printing
+pub mod Progress

@@ -1,114 +1,145 @@
-// A whole file, read into a buffer of 262,144 bytes.
-ghost use Prim.Native.Nat.{_≤_};
-ghost use mathlib.Core.Path.{_≡_};
+// A whole file, read into a buffer.
+ghost use Prim.Native.Nat.{_+_, _≤_, _<_};
 ghost use lib.ListN.{length};
-ghost use Rattle.convert.specs.Inputs.{ReadFits, InputFits};
 use crate::say;
+use libc::STDERR_FILENO;
 use libc::STDIN_FILENO;
 
-// What one read came to.
-enum Read {
-    Failed,
-    Ended,
-    More(usize),
+// A file with more bytes is not taken.
+pub(crate) const INPUT_LIMIT: usize = 262144;
+
+// How far a file is read: how many bytes of it, how many more have room (none where the reading is over), and whether
+// a read failed.
+struct Reading {
+    length: usize,
+    room: usize,
+    failed: bool,
 }
 
-// What reading a file came to: its length, or why it is not there.
-pub(crate) enum Input {
-    Failed,
-    TooLong,
-    Whole(usize),
+// What reading a file came to: whether it is in the buffer, and its length.
+pub(crate) struct Input {
+    pub taken: bool,
+    pub length: usize,
 }
 
-pub(crate) fn buffer() -> [u8; 262144]
-    ensures { λ r. ⌜ 262144 ≡ length r ⌝ }
+// Reads once, after the bytes that are read.
+fn read_once(fd: i32, buffer: &mut [u8], reading: Reading) -> Reading
+    requires { ⌜ 0 < reading .room ⌝ }
+    requires { ⌜ reading .length + reading .room ≤ length (now buffer) ⌝ }
+    ensures { λ r. ⌜ r .room < reading .room ⌝ }
+    ensures { λ r. ⌜ r .length + r .room ≤ length (now (buffer .exit)) ⌝ }
 {
-    [0; 262144]
-}
-
-// Reads behind the bytes that the buffer holds.
-fn read_more(fd: i32, buffer: &mut [u8], held: usize) -> Read
-    requires { ⌜ held ≤ length (now buffer) ⌝ }
-    ensures { λ r. ⌜ ReadFits held (length (now (buffer .exit))) r ⌝ }
-{
-    let got = libc::read(fd, &mut buffer[held..]);
-    if got < 0 {
-        return Read::Failed;
-    }
-    let more = io::count(got, &buffer[held..]);
+    let start = reading.length;
+    let room = reading.room;
+    let end = start + room;
+    let got = libc::read(fd, &mut buffer[start..end]);
+    let more = io::count(got, &buffer[start..end]);
     if more == 0 {
-        return Read::Ended;
+        return Reading {
+            length: start,
+            room: 0,
+            failed: got < 0,
+        };
     }
-    Read::More(more)
+    Reading {
+        length: start + more,
+        room: room - more,
+        failed: false,
+    }
 }
 
-// Whether the file goes on behind a full buffer.
-fn read_beyond(fd: i32, held: usize) -> Input
-    ensures { λ r. ⌜ InputFits held r ⌝ }
+// Reads until the file ends, the buffer is full or a read fails.
+fn read_all(fd: i32, buffer: &mut [u8]) -> Reading
+    ensures { λ r. ⌜ r .length ≤ length (now (buffer .exit)) ⌝ }
+{
+    let mut reading = Reading {
+        length: 0,
+        room: buffer.len(),
+        failed: false,
+    };
+    while reading.room > 0 {
+        reading = read_once(fd, buffer, reading);
+    }
+    reading
+}
+
+// A file that is not taken.
+fn nothing() -> Input
+    ensures { λ r. ⌜ r .length ≤ 0 ⌝ }
+{
+    Input {
+        taken: false,
+        length: 0,
+    }
+}
+
+fn failed(what: &[u8], path: &[u8]) -> Input
+    ensures { λ r. ⌜ r .length ≤ 0 ⌝ }
+{
+    say::failed(what, path);
+    nothing()
+}
+
+fn too_long(path: &[u8]) -> Input
+    ensures { λ r. ⌜ r .length ≤ 0 ⌝ }
+{
+    say::numbered(
+        b"longer than ",
+        INPUT_LIMIT as u64,
+        b" bytes, which is the limit: ",
+    );
+    io::write_all(STDERR_FILENO, path);
+    io::write_all(STDERR_FILENO, b"\n");
+    nothing()
+}
+
+// A file that fills the buffer is taken where it ends there.
+fn read_beyond(fd: i32, path: &[u8], length: usize) -> Input
+    ensures { λ r. ⌜ r .length ≤ length ⌝ }
 {
     let mut beyond = [0u8; 1];
     let got = libc::read(fd, &mut beyond);
     if got < 0 {
-        return Input::Failed;
+        return failed(b"cannot read: ", path);
     }
-    if got == 0 {
-        return Input::Whole(held);
+    if got > 0 {
+        return too_long(path);
     }
-    Input::TooLong
+    Input {
+        taken: true,
+        length,
+    }
 }
 
-// Reads the file to its end.
-fn read_all(fd: i32, buffer: &mut [u8]) -> Input
-    ensures { λ r. ⌜ InputFits (length (now (buffer .exit))) r ⌝ }
+fn read_file(fd: i32, path: &[u8], buffer: &mut [u8]) -> Input
+    ensures { λ r. ⌜ r .length ≤ length (now (buffer .exit)) ⌝ }
 {
-    let mut held = 0;
-    while held < buffer.len() {
-        match read_more(fd, buffer, held) {
-            Read::Failed => {
-                return Input::Failed;
-            }
-            Read::Ended => {
-                return Input::Whole(held);
-            }
-            Read::More(more) => {
-                held += more;
-            }
-        }
+    let reading = read_all(fd, buffer);
+    let length = reading.length;
+    if reading.failed {
+        return failed(b"cannot read: ", path);
     }
-    read_beyond(fd, held)
+    if length == buffer.len() {
+        return read_beyond(fd, path, length);
+    }
+    Input {
+        taken: true,
+        length,
+    }
 }
 
-// Says why a file was not read.
-fn told(input: Input, path: &[u8]) -> Input
-    ensures { λ r. ⌜ r ≡ input ⌝ }
-{
-    match input {
-        Input::Failed => {
-            say::failed(b"cannot read: ", path);
-        }
-        Input::TooLong => {
-            say::words(b"longer than 262144 bytes, which is the limit: ");
-            io::write_all(libc::STDERR_FILENO, path);
-            io::write_all(libc::STDERR_FILENO, b"\n");
-        }
-        Input::Whole(_) => {}
-    }
-    input
-}
-
-// Reads standard input where the path is -, or the file.
+// Reads standard input where the path is -, or the file; says why where it is not taken.
 pub(crate) fn read_path(path: &[u8], buffer: &mut [u8]) -> Input
-    ensures { λ r. ⌜ InputFits (length (now (buffer .exit))) r ⌝ }
+    ensures { λ r. ⌜ r .length ≤ length (now (buffer .exit)) ⌝ }
 {
     if check::same(path, b"-") {
-        return told(read_all(STDIN_FILENO, buffer), b"standard input");
+        return read_file(STDIN_FILENO, b"standard input", buffer);
     }
     let fd = os::open_read(path);
     if fd < 0 {
-        say::failed(b"cannot open: ", path);
-        return Input::Failed;
+        return failed(b"cannot open: ", path);
     }
-    let input = told(read_all(fd, buffer), path);
+    let input = read_file(fd, path, buffer);
     libc::close(fd);
     input
 }

@@ -2,7 +2,7 @@
 use libc::STDERR_FILENO;
 use libc::STDOUT_FILENO;
 
-// Words behind the program's name; a line is not ended.
+// Words after the program's name; a line is not ended.
 pub(crate) fn words(text: &[u8]) {
     io::write_all(STDERR_FILENO, b"convert: ");
     io::write_all(STDERR_FILENO, text);
@@ -21,16 +21,16 @@ pub(crate) fn refusal(number: u64) {
     io::write_all(STDOUT_FILENO, b"\n");
 }
 
-// A refusal's number behind that of its line.
+// A refusal's number after that of its line.
 pub(crate) fn refusal_at(line: u64, number: u64) {
     io::print_decimal(STDOUT_FILENO, line);
     io::write_all(STDOUT_FILENO, b" ");
     refusal(number);
 }
 
-// Words about a line or a record by its number: what stands before the number, and behind it.
-pub(crate) fn numbered(before: &[u8], number: u64, behind: &[u8]) {
+// Words with a number in them: those before it and those after it.
+pub(crate) fn numbered(before: &[u8], number: u64, after: &[u8]) {
     words(before);
     io::print_decimal(STDERR_FILENO, number);
-    io::write_all(STDERR_FILENO, behind);
+    io::write_all(STDERR_FILENO, after);
 }

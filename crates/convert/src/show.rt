@@ -2,21 +2,35 @@
 ghost use Prim.Native.Nat.{_≤_};
 ghost use lib.ListN.{length};
 use crate::say;
+use buffers::text::lowercase_digit;
 use libc::STDERR_FILENO;
+
+// The most bytes of a line, and so many of a longer one are shown.
+const LONGEST_LINE: usize = 200;
 
 // The place of the first line feed from a place on, or the text's end.
 fn line_end(text: &[u8], start: usize) -> usize
     requires { ⌜ start ≤ length (now text) ⌝ }
     ensures { λ r. ⌜ (start ≤ r) × (r ≤ length (now (text .entry))) ⌝ }
 {
-    let mut place = start;
-    while place < text.len() {
+    for place in start..text.len() {
         if text[place] == b'\n' {
             return place;
         }
-        place += 1;
     }
-    place
+    text.len()
+}
+
+// Where the line after the one at a place starts, or the text's end.
+fn next_line(text: &[u8], start: usize) -> usize
+    requires { ⌜ start ≤ length (now text) ⌝ }
+    ensures { λ r. ⌜ r ≤ length (now (text .entry)) ⌝ }
+{
+    let end = line_end(text, start);
+    if end < text.len() {
+        return end + 1;
+    }
+    end
 }
 
 // Where the line with a number starts; lines are counted from 1.
@@ -24,26 +38,10 @@ fn line_start(text: &[u8], number: usize) -> usize
     ensures { λ r. ⌜ r ≤ length (now (text .entry)) ⌝ }
 {
     let mut start = 0;
-    let mut passed = 1;
-    while passed < number {
-        let end = line_end(text, start);
-        if text.len() <= end {
-            return start;
-        }
-        start = end + 1;
-        passed += 1;
+    for _ in 1..number {
+        start = next_line(text, start);
     }
     start
-}
-
-fn hex_digit(digit: u8) -> u8 {
-    if digit < 10 {
-        return 48 + digit;
-    }
-    if digit < 16 {
-        return 87 + digit;
-    }
-    b'?'
 }
 
 // Writes a byte as it is, or by its number where it would not be seen.
@@ -55,21 +53,29 @@ fn show_byte(byte: u8) {
             return;
         }
     }
-    let shown = [b'\\', b'x', hex_digit(byte / 16), hex_digit(byte % 16)];
+    let shown = [
+        b'\\',
+        b'x',
+        lowercase_digit(byte / 16),
+        lowercase_digit(byte),
+    ];
     io::write_all(STDERR_FILENO, &shown);
 }
 
-// Writes a line, of a long one the first 200 bytes.
-fn show_bytes(line: &[u8]) {
-    let mut i = 0;
-    while i < line.len() {
-        if 200 <= i {
-            io::write_all(STDERR_FILENO, b"...\n");
-            return;
-        }
-        show_byte(line[i]);
-        i += 1;
+fn show_bytes(bytes: &[u8]) {
+    for i in 0..bytes.len() {
+        show_byte(bytes[i]);
     }
+}
+
+// Writes a line, of a longer one the first bytes.
+fn show_line(line: &[u8]) {
+    if LONGEST_LINE < line.len() {
+        show_bytes(&line[0..LONGEST_LINE]);
+        io::write_all(STDERR_FILENO, b"...\n");
+        return;
+    }
+    show_bytes(line);
     io::write_all(STDERR_FILENO, b"\n");
 }
 
@@ -85,8 +91,10 @@ fn last_byte(line: &[u8]) -> u8 {
 pub(crate) fn too_long(text: &[u8], number: usize) {
     let start = line_start(text, number);
     let end = line_end(text, start);
-    say::numbered(b"line ", number as u64, b" has more than 200 bytes: ");
-    show_bytes(&text[start..end]);
+    say::numbered(b"line ", number as u64, b" has more than ");
+    io::print_decimal(STDERR_FILENO, LONGEST_LINE as u64);
+    io::write_all(STDERR_FILENO, b" bytes: ");
+    show_line(&text[start..end]);
 }
 
 // A line of another shape.
@@ -109,5 +117,5 @@ pub(crate) fn other_shape(text: &[u8], number: usize) {
             b" is neither blank nor one call such as WriteI2C(0x4c,0x0f): ",
         );
     }
-    show_bytes(line);
+    show_line(line);
 }

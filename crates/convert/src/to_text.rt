@@ -1,34 +1,58 @@
 // A trace to text: convert text TRACE.
-ghost use mathlib.Core.Path.{_≡_};
 ghost use Prim.Native.Nat.{_≤_};
 ghost use lib.ListN.{length};
-ghost use Rattle.convert.specs.Printing.{Inside, TextFits};
+ghost use Rattle.convert.specs.Progress.{Inside};
 use crate::input;
-use crate::input::Input;
+use crate::input::INPUT_LIMIT;
 use crate::say;
 use libc::STDOUT_FILENO;
-use listing::TextAnswer;
+use listing::ListingAnswer;
 
-// Where the printing stands: the place of the next record, how much text is held, and whether it is over.
-struct Printing {
-    at: usize,
-    held: usize,
-    over: bool,
+// What became of the text of a trace, and how many bytes of it are in the buffer.
+struct WholeText {
+    answer: ListingAnswer,
+    length: usize,
 }
 
-// Writes the text that is held.
-fn write_out(out: &[u8], held: usize) -> bool
-    requires { ⌜ held ≤ length (now out) ⌝ }
+// Whether the text of a record was put into the buffer, and the place after it.
+struct RecordText {
+    put: bool,
+    end: usize,
+}
+
+// How far a trace is printed: the place of the next record, and the length of the text that the buffer holds.
+struct Progress {
+    next: usize,
+    length: usize,
+}
+
+// Puts the text of a trace at the start of the buffer.
+fn put_text(trace: &[u8], out: &mut [u8]) -> WholeText
+    ensures { λ r. ⌜ r .length ≤ length (now (out .exit)) ⌝ }
 {
-    if io::write_all(STDOUT_FILENO, &out[..held]) {
-        return true;
-    }
-    os::fail(b"convert: cannot write the text");
-    false
+    let answer = listing::to_text(trace, out);
+    let ListingAnswer::Text(length) = answer else {
+        return WholeText { answer, length: 0 };
+    };
+    WholeText { answer, length }
 }
 
-// The place behind the record at a place, or the trace's end.
-fn behind(trace: &[u8], at: usize) -> usize
+// Puts the text of the record at a place into the buffer, from a start on.
+fn put_record(trace: &[u8], at: usize, out: &mut [u8], start: usize) -> RecordText
+    requires { ⌜ at ≤ length (now trace) ⌝ }
+    ensures { λ r. ⌜ r .end ≤ length (now (out .exit)) ⌝ }
+{
+    let ListingAnswer::Text(bytes) = listing::record_text(&trace[at..], at == 0, out, start) else {
+        return RecordText { put: false, end: 0 };
+    };
+    RecordText {
+        put: true,
+        end: start + bytes,
+    }
+}
+
+// The place after the record at a place, or the trace's end.
+fn after_record(trace: &[u8], at: usize) -> usize
     requires { ⌜ at ≤ length (now trace) ⌝ }
     ensures { λ r. ⌜ r ≤ length (now (trace .entry)) ⌝ }
 {
@@ -39,65 +63,54 @@ fn behind(trace: &[u8], at: usize) -> usize
     at + length
 }
 
-// Puts the text of the record at a place behind the text that is held.
-fn put_record(trace: &[u8], at: usize, out: &mut [u8], held: usize) -> TextAnswer
-    requires { ⌜ at ≤ length (now trace) ⌝ }
-    ensures { λ r. ⌜ TextFits held (length (now (out .exit))) r ⌝ }
+// Writes the first bytes of the buffer.
+fn write_out(out: &[u8], end: usize) -> bool
+    requires { ⌜ end ≤ length (now out) ⌝ }
 {
-    listing::record_text(&trace[at..], at == 0, out, held)
+    if io::write_all(STDOUT_FILENO, &out[0..end]) {
+        return true;
+    }
+    os::fail(b"convert: cannot write the text");
+    false
 }
 
-// What is held is written; where nothing was held, or it cannot be written, the printing is over.
-fn written(out: &[u8], at: usize, held: usize) -> Printing
-    requires { ⌜ held ≤ length (now out) ⌝ }
-    ensures { λ r. ⌜ (r .at ≡ at) × (r .held ≡ 0) ⌝ }
-{
-    if write_out(out, held) {
-        return Printing {
-            at,
-            held: 0,
-            over: held == 0,
-        };
-    }
-    Printing {
-        at,
-        held: 0,
-        over: true,
-    }
-}
-
-// The text of the next record is held too; without room for it, and at the trace's end, what is held is written.
-fn turn(trace: &[u8], printing: Printing, out: &mut [u8]) -> Printing
-    requires { ⌜ Inside (length (now trace)) (length (now out)) printing ⌝ }
+// Puts the text of the next record; without room for it, what the buffer holds is written first.
+fn print_record(trace: &[u8], progress: Progress, out: &mut [u8]) -> Progress
+    requires { ⌜ Inside (length (now trace)) (length (now out)) progress ⌝ }
     ensures { λ r. ⌜ Inside (length (now (trace .entry))) (length (now (out .exit))) r ⌝ }
 {
-    let at = printing.at;
-    let held = printing.held;
+    let at = progress.next;
+    let length = progress.length;
     if at == trace.len() {
-        return written(out, at, held);
+        return progress;
     }
-    let TextAnswer::Text(bytes) = put_record(trace, at, out, held) else {
-        return written(out, at, held);
-    };
-    Printing {
-        at: behind(trace, at),
-        held: held + bytes,
-        over: false,
+    let first = put_record(trace, at, out, length);
+    if first.put {
+        return Progress {
+            next: after_record(trace, at),
+            length: first.end,
+        };
+    }
+    if !write_out(out, length) {
+        return Progress {
+            next: trace.len(),
+            length: 0,
+        };
+    }
+    let second = put_record(trace, at, out, 0);
+    Progress {
+        next: after_record(trace, at),
+        length: second.end,
     }
 }
 
-// Prints the text of a trace that has one. A proved loop has to end: the turns are counted down, from a number that no trace uses up.
+// Prints the text of a trace that has one. A trace has at most as many records as bytes.
 fn print(trace: &[u8], out: &mut [u8]) {
-    let mut printing = Printing {
-        at: 0,
-        held: 0,
-        over: false,
-    };
-    let mut turns = u64::MAX;
-    while turns > 0 && !printing.over {
-        printing = turn(trace, printing, out);
-        turns -= 1;
+    let mut progress = Progress { next: 0, length: 0 };
+    for _ in 0..trace.len() {
+        progress = print_record(trace, progress, out);
     }
+    write_out(out, progress.length);
 }
 
 // Whether the record at a place has a text.
@@ -105,32 +118,34 @@ fn has_text(trace: &[u8], at: usize) -> bool
     requires { ⌜ at ≤ length (now trace) ⌝ }
 {
     let mut none = [0u8; 1];
-    match put_record(trace, at, &mut none, 0) {
-        TextAnswer::NoRecord => false,
-        TextAnswer::AddressOutOfRange => false,
-        TextAnswer::NoTextForm => false,
-        TextAnswer::NoRoom => true,
-        TextAnswer::Text(_) => true,
+    match listing::record_text(&trace[at..], at == 0, &mut none, 0) {
+        ListingAnswer::NoRecord => false,
+        ListingAnswer::AddressOutOfRange => false,
+        ListingAnswer::NoTextForm => false,
+        ListingAnswer::NoRoom => true,
+        ListingAnswer::Text(_) => true,
     }
 }
 
 // The number of the first record that has no text.
 fn refused_record(trace: &[u8]) -> u64 {
     let mut at = 0;
-    let mut passed = 0;
-    let mut turns = u64::MAX;
-    while turns > 1 && has_text(trace, at) {
-        at = behind(trace, at);
-        passed += 1;
-        turns -= 1;
+    for passed in 0..trace.len() {
+        if !has_text(trace, at) {
+            return (passed + 1) as u64;
+        }
+        at = after_record(trace, at);
     }
-    passed + 1
+    1
 }
 
-// Prints the text of a trace, or says why there is none. A text that has no room in the buffer is that of a good trace: 8 comes last.
+// Prints the text of a trace, or says why there is none. A text that has no room in the buffer is that of a good trace:
+// 8 comes last.
 fn convert(trace: &[u8], out: &mut [u8]) {
-    match listing::to_text(trace, out) {
-        TextAnswer::NoRecord => {
+    let text = put_text(trace, out);
+    let answer = text.answer;
+    match answer {
+        ListingAnswer::NoRecord => {
             say::refusal(13);
             say::numbered(
                 b"record ",
@@ -138,11 +153,11 @@ fn convert(trace: &[u8], out: &mut [u8]) {
                 b" is missing, cut short, or not one that a trace has there\n",
             );
         }
-        TextAnswer::AddressOutOfRange => {
+        ListingAnswer::AddressOutOfRange => {
             say::refusal(2);
             say::words(b"the hub's address in record 1 has to lie in 08 to 77\n");
         }
-        TextAnswer::NoTextForm => {
+        ListingAnswer::NoTextForm => {
             say::refusal(16);
             say::numbered(
                 b"record ",
@@ -150,22 +165,20 @@ fn convert(trace: &[u8], out: &mut [u8]) {
                 b" is no register write: only the hub's address and register writes have a text\n",
             );
         }
-        TextAnswer::NoRoom => print(trace, out),
-        TextAnswer::Text(bytes) => {
-            write_out(out, bytes);
+        ListingAnswer::NoRoom => print(trace, out),
+        ListingAnswer::Text(_) => {
+            write_out(out, text.length);
         }
     }
 }
 
 // Reads the trace into the buffer, and prints its text.
 fn convert_file(path: &[u8], buffer: &mut [u8]) {
-    match input::read_path(path, buffer) {
-        Input::Failed => {}
-        Input::TooLong => {}
-        Input::Whole(length) => {
-            let mut out = io::large_buffer();
-            convert(&buffer[..length], &mut out);
-        }
+    let input = input::read_path(path, buffer);
+    let length = input.length;
+    if input.taken {
+        let mut out = io::large_buffer();
+        convert(&buffer[0..length], &mut out);
     }
 }
 
@@ -176,6 +189,6 @@ pub(crate) fn run() {
         os::fail(b"convert: cannot open the trace");
         return;
     }
-    let mut buffer = input::buffer();
+    let mut buffer = [0u8; INPUT_LIMIT];
     convert_file(&path[..path_length], &mut buffer);
 }

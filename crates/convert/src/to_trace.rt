@@ -1,16 +1,26 @@
 // A script to a trace: convert trace ADDRESS SCRIPT OUT.
-ghost use mathlib.Core.Path.{_≡_};
+ghost use Prim.Native.Nat.{_≤_};
 ghost use lib.ListN.{length};
 use crate::input;
-use crate::input::Input;
+use crate::input::INPUT_LIMIT;
 use crate::say;
 use crate::show;
 use script::TraceAnswer;
+
+// After its hub record a trace has at most a third of the text's bytes (`TraceIsShort`, so `NoEight`): no script that is
+// taken makes a longer one.
+const LONGEST_TRACE: usize = 87387;
 
 // The hub's address as it was given: two hex digits, or something else.
 enum Address {
     NotTwoDigits,
     Given(u8),
+}
+
+// What became of the trace of a script, and how many bytes of it are in the buffer.
+struct ScriptTrace {
+    answer: TraceAnswer,
+    length: usize,
 }
 
 fn read_address(word: &[u8]) -> Address {
@@ -28,13 +38,6 @@ fn read_address(word: &[u8]) -> Address {
     Address::Given(16 * high + low)
 }
 
-// Behind its hub record a trace has at most a third of the text's bytes (`TraceIsShort`, so `NoEight`): a text of 262,144 bytes makes none that is longer than this.
-fn trace_buffer() -> [u8; 87387]
-    ensures { λ r. ⌜ 87387 ≡ length r ⌝ }
-{
-    [0; 87387]
-}
-
 // Writes the trace.
 fn write_trace(path: &[u8], trace: &[u8]) {
     let fd = os::open_overwrite(path);
@@ -48,18 +51,32 @@ fn write_trace(path: &[u8], trace: &[u8]) {
     libc::close(fd);
 }
 
+// Puts the trace of a text at the start of the buffer.
+fn put_trace(address: u8, text: &[u8], trace: &mut [u8]) -> ScriptTrace
+    ensures { λ r. ⌜ r .length ≤ length (now (trace .exit)) ⌝ }
+{
+    let answer = script::to_trace(address, text, trace);
+    let TraceAnswer::Trace { length } = answer else {
+        return ScriptTrace { answer, length: 0 };
+    };
+    ScriptTrace { answer, length }
+}
+
 // Writes the trace of a text, or says why there is none.
 fn convert(address: u8, text: &[u8], trace: &mut [u8], out: &[u8]) {
-    match script::to_trace(address, text, trace) {
+    let made = put_trace(address, text, trace);
+    let answer = made.answer;
+    let length = made.length;
+    match answer {
         TraceAnswer::AddressOutOfRange => {
             say::refusal(2);
             say::words(b"the hub's address has to lie in 08 to 77\n");
         }
-        TraceAnswer::LineTooLong { line } => {
+        TraceAnswer::ScriptLineTooLong { line } => {
             say::refusal_at(line as u64, 15);
             show::too_long(text, line);
         }
-        TraceAnswer::OtherShape { line } => {
+        TraceAnswer::ScriptLineOtherShape { line } => {
             say::refusal_at(line as u64, 14);
             show::other_shape(text, line);
         }
@@ -68,18 +85,31 @@ fn convert(address: u8, text: &[u8], trace: &mut [u8], out: &[u8]) {
             say::refusal(8);
             say::words(b"the trace is too long\n");
         }
-        TraceAnswer::Trace { length } => write_trace(out, &trace[..length]),
+        TraceAnswer::Trace { length: _ } => write_trace(out, &trace[0..length]),
     }
 }
 
 // Reads the script into the buffer, and converts it.
 fn convert_file(address: u8, script: &[u8], buffer: &mut [u8], out: &[u8]) {
-    match input::read_path(script, buffer) {
-        Input::Failed => {}
-        Input::TooLong => {}
-        Input::Whole(length) => {
-            let mut trace = trace_buffer();
-            convert(address, &buffer[..length], &mut trace, out);
+    let input = input::read_path(script, buffer);
+    let length = input.length;
+    if input.taken {
+        let mut trace = [0u8; LONGEST_TRACE];
+        convert(address, &buffer[0..length], &mut trace, out);
+    }
+}
+
+// Converts the script into the trace, the hub's address given as a word.
+fn convert_words(word: &[u8], script: &[u8], out: &[u8]) {
+    match read_address(word) {
+        Address::NotTwoDigits => {
+            say::words(
+                b"give the hub's address as two hex digits, as in: convert trace 3D FILE OUT\n",
+            );
+        }
+        Address::Given(address) => {
+            let mut buffer = [0u8; INPUT_LIMIT];
+            convert_file(address, script, &mut buffer, out);
         }
     }
 }
@@ -99,20 +129,9 @@ pub(crate) fn run() {
         os::fail(b"convert: cannot write the trace");
         return;
     }
-    match read_address(&word[..word_length]) {
-        Address::NotTwoDigits => {
-            say::words(
-                b"give the hub's address as two hex digits, as in: convert trace 3D FILE OUT\n",
-            );
-        }
-        Address::Given(address) => {
-            let mut buffer = input::buffer();
-            convert_file(
-                address,
-                &script[..script_length],
-                &mut buffer,
-                &out[..out_length],
-            );
-        }
-    }
+    convert_words(
+        &word[..word_length],
+        &script[..script_length],
+        &out[..out_length],
+    );
 }

@@ -84,7 +84,7 @@ from-top j k c =
     ∙ at-once (j + k) (c * 2 ^ j)
     ∙ ap (bitXor (shifts (j + k) (c * 2 ^ j % 2 ^ (j + k)))) (sym (shr-shr (c * 2 ^ j) j k) ∙ ap (λ (t : ℕ). t / 2 ^ k) (shl-shr c j))
 
--- bytes behind bytes
+-- bytes after bytes
 crc-append : (c : ℕ) (a b : List ℕ) → crcFrom c (a ++ b) ≡ crcFrom (crcFrom c a) b
 unfolding crcFrom
 crc-append c [] b = refl

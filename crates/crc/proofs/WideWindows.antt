@@ -114,32 +114,32 @@ leaving m a h k =
     ∙ ap (bitXor w) (sparse-wide s small)
     ∙ sym (more 32 m 0 s h)
 
--- a added behind the first k words
+-- a added after the first k words
 drop-add : (k p q : ℕ) (l : List ℕ) (a : ℕ) → k + p ≡ q → drop k (add a l q) ≡ add a (drop k l) p
 drop-add k p q l a e =
     ap (λ (t : ℕ). drop k (add a l t)) (sym e) ∙ drop-set-add k l p _ ∙ ap (λ (t : ℕ). set (drop k l) p (bitXor t a)) (sym (getD-drop k l p 0))
 
--- the window at i, after x is put behind it and its first word has left
+-- the window at i, when x was put after it and its first word has left
 module _ (l : List ℕ) (i x : ℕ) (h : i + 32 < length l) where
-  abbrev behind : List ℕ
-  behind = set l (i + 32) x
+  abbrev extended : List ℕ
+  extended = set l (i + 32) x
 
-  pub slid-wide : getD behind i 0 < 2 ^ 64
-      → afterWords 0 (take 32 (drop (i + 1) (add (getD behind i 0) (add (getD behind i 0) (add (getD behind i 0) behind (i + 8)) (i + 22)) (i + 32))))
+  pub slid-wide : getD extended i 0 < 2 ^ 64
+      → afterWords 0 (take 32 (drop (i + 1) (add (getD extended i 0) (add (getD extended i 0) (add (getD extended i 0) extended (i + 8)) (i + 22)) (i + 32))))
       ≡ afterWord (afterWords 0 (take 32 (drop i l))) x
   unfolding afterWords
   slid-wide k =
-      let a = getD behind i 0 in
-      let within : i < length behind = rw length-set (omega arith) in
-      let long : 32 ≤ length (drop (i + 1) behind) = simp (length-drop, length-set) (omega arith) in
+      let a = getD extended i 0 in
+      let within : i < length extended = rw length-set (omega arith) in
+      let long : 32 ≤ length (drop (i + 1) extended) = simp (length-drop, length-set) (omega arith) in
       let room : 32 < length (drop i l) = rw length-drop (omega arith) in
       ap (λ (m : List ℕ). afterWords 0 (take 32 m))
       (drop-add (i + 1) 31 (i + 32) _ a (omega arith)
       ∙ ap (λ (m : List ℕ). add a m 31)
-      (drop-add (i + 1) 21 (i + 22) _ a (omega arith) ∙ ap (λ (m : List ℕ). add a m 21) (drop-add (i + 1) 7 (i + 8) behind a (omega arith))))
-      ∙ leaving (drop (i + 1) behind) a long k
+      (drop-add (i + 1) 21 (i + 22) _ a (omega arith) ∙ ap (λ (m : List ℕ). add a m 21) (drop-add (i + 1) 7 (i + 8) extended a (omega arith))))
+      ∙ leaving (drop (i + 1) extended) a long k
       ∙ ap (λ (m : List ℕ). afterWords 0 (take 33 m))
-      (ap (λ (t : ℕ). a ∷ drop t behind) (add-one i) ∙ sym (drop-cons behind i 0 within) ∙ drop-set-add i l 32 x)
+      (ap (λ (t : ℕ). a ∷ drop t extended) (add-one i) ∙ sym (drop-cons extended i 0 within) ∙ drop-set-add i l 32 x)
       ∙ word-put 32 (drop i l) 0 x room
 
 -- a word of the upper half, m, comes down

@@ -41,7 +41,7 @@ holds-more s p n x hp hn hb h =
         ∙ sym (shifts-add 8 (8 * n) (bitXor (bitXor c b) (x * 2 ^ 8)))
         ∙ ap₂ shifts (sym (longer ∙ add-comm (8 * n) 8)) (xor-assoc c b (x * 2 ^ 8) ∙ ap (bitXor c) (xor-comm b (x * 2 ^ 8)))
 
--- a byte behind the n that a word holds
+-- a byte after the n that a word holds
 pub holds-last : (s : List ℕ) (p n x : ℕ) → p + n < length s → n < 8 → getD s (p + n) 0 < 256 → Holds s p n x
     → Holds s p (suc n) (bitXor x (getD s (p + n) 0 * 2 ^ (8 * n) % 2 ^ 64))
 unfolding crcFrom

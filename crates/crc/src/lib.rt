@@ -1,6 +1,6 @@
-// The checksum (CRC) of a CSI-2 payload, sixteen bytes a step, and 256 where it is long. It needs no table: the polynomial has four
-// terms, so many shifts of the register at once are a few shifts and sums of whole words. (A constant array that is
-// read at places which the compiler cannot tell is stored anew by each call.)
+// The checksum (CRC) of a CSI-2 payload, sixteen bytes a step, and 256 where it is long. It needs no table: the
+// polynomial has four terms, so many shifts of the register at once are a few shifts and sums of whole words. (A
+// constant array that is read at places which the compiler cannot tell is stored anew by each call.)
 ghost use mathlib.Core.Path.{_≡_};
 ghost use Prim.Native.Nat.{ℕ, _+_, _≤_, _<_};
 ghost use lib.ListN.{length, take, drop};
@@ -27,8 +27,9 @@ struct Progress {
     at: usize,
 }
 
-// What 64 shifts make of a register of 64 bits. The polynomial, low bit first, is 1 + s, with bits 4, 11 and 16 in s. The first
-// four lines divide by it: times 1 + s, 1 + s^2, 1 + s^4 and 1 + s^8. The last is what the quotient times s has above 64 bits.
+// What 64 shifts make of a register of 64 bits. The polynomial, low bit first, is 1 + s, with bits 4, 11 and 16 in s.
+// The first four lines divide by it: times 1 + s, 1 + s^2, 1 + s^4 and 1 + s^8. The last is what the quotient times s
+// has above 64 bits.
 fn shifted(register: u64) -> u16
     ensures { λ r. ⌜ r ≡ shifts 64 register ⌝ }
 {
@@ -72,8 +73,8 @@ fn wide_word(bytes: &[u8], at: usize) -> u64
     x
 }
 
-// The window after one word more: the polynomial to the power 16 has bits 0, 64, 176 and 256, so the first word leaves the window
-// where it is added again 64, 176 and 256 bits later.
+// The window after one word more: the polynomial to the power 16 has bits 0, 64, 176 and 256, so the first word leaves
+// the window where it is added again 64, 176 and 256 bits later.
 fn slide(window: Window, next: u64) -> Window
     ensures { λ r. ⌜ afterWindow r ≡ afterWord (afterWindow window) next ⌝ }
 {
@@ -108,8 +109,9 @@ fn wide_window(crc: u16, bytes: &[u8]) -> [u64; 64]
     window
 }
 
-// The 256 bytes from `at` on are put behind a wide window, whose words leave it one by one: the polynomial to the power 128 has bits
-// 0, 512, 1408 and 2048, so a word may leave where it is added again 8, 22 and 32 words later. Sums alone: LLVM makes vectors of them.
+// The 256 bytes from `at` on are put after a wide window, whose words leave it one by one: the polynomial to the power
+// 128 has bits 0, 512, 1408 and 2048, so a word may leave where it is added again 8, 22 and 32 words later. Sums alone:
+// LLVM makes vectors of them.
 fn slide_wide(window: &mut [u64], bytes: &[u8], at: usize)
     requires { ⌜ (length (now window) ≡ 64) × (at + 256 ≤ length (now bytes)) ⌝ }
     ensures { λ r. ⌜ ((crc : ℕ) → StandFor crc (now (bytes .entry)) at (now (window .entry))
@@ -186,7 +188,8 @@ fn open(crc: u16, bytes: &[u8]) -> Opened
     Opened { window, at: 32 }
 }
 
-// The running checksum `crc` after as many of the next bytes as a window and sixteens hold; after none where there are fewer than 32.
+// The running checksum `crc` after as many of the next bytes as a window and sixteens hold; after none where there are
+// fewer than 32.
 fn feed_blocks(crc: u16, bytes: &[u8]) -> Progress
     ensures { λ r. ⌜ SumOfFirst crc (now (bytes .entry)) (r .at) (r .sum) ⌝ }
 {

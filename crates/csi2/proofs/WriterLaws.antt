@@ -1,126 +1,103 @@
--- What the writers answer, by the cases: the answer to the caller, and the buffer.
+-- What the writers answer, by the tests that the source makes, and what an answer that is no refusal tells; a packet from its parts.
 -- Assumes nothing.
 use mathlib.Core.Path.{_≡_, refl, sym, ap, ap₂, _∙_}
 use mathlib.Core.Bool.{Bool, true, false, cond}
-use mathlib.Core.List.{List, _++_}
-use Prim.Native.Nat.{ℕ, _+_, _≤_}
+use mathlib.Core.List.{List, _∷_, _++_, append-assoc}
+use Prim.Native.Nat.{ℕ, _+_, _*_, _/_, _%_, _≤_}
 use lib.ListN.{length, take, drop, length-append}
 use native.Mathlib.Omega.{arith}
-use Rattle.laws.specs.Reply.{Reply, refused, given}
-use Rattle.laws.specs.Buffers.{written, hasRoom, afterReply, countOf}
-use Rattle.laws.proofs.Buffers.{length-written, written-more, read-written, room-none, room-enough, answered-so}
+use Rattle.laws.specs.Reply.{refused, given}
+use Rattle.laws.specs.Buffers.{written, hasRoom}
+use Rattle.laws.proofs.Buffers.{length-written, written-more, read-written}
 use Rattle.formats.specs.declared.Format.{Format}
+use Rattle.ecc.specs.CheckBytes.{checkByte}
 use Rattle.crc.specs.Checksum.{crcOf}
-use Rattle.packing.specs.declared.check.PixelCheck.{PixelCheck}
-use Rattle.packing.specs.declared.check.PixelCheck.the-variants.{Fit}
-use Rattle.packing.specs.Raw.{payloadOf}
-use Rattle.packing.specs.Packing.{checkOf, afterCheck}
+use Rattle.packing.specs.Raw.{payloadOf, widthAllowed, allFit}
 use Rattle.packing.specs.Lengths.{payloadLength}
 use Rattle.packing.proofs.RawLaws.{length-payload}
-use Rattle.packing.proofs.CheckLaws.{if-pixels}
-use Rattle.csi2.specs.declared.line.PacketAnswer.{PacketAnswer}
+use Rattle.packing.proofs.CheckLaws.{passed}
+use Rattle.laws.proofs.Replies.{was-true, was-false, room-by, had-room}
 use Rattle.csi2.specs.declared.short.FrameSync.{FrameSync}
 use Rattle.csi2.specs.Packets.{littleEndian, isShort, headerBytes, syncIdentifier, longPacket}
-use Rattle.csi2.specs.Writers.{shortReply, packetReply, lineReply, lineDropped, sentReply, forwardReply, ForwardedCount, droppedLine, sentBytes, forwardCount, afterForward}
-use Rattle.csi2.specs.PacketAnswers.{packetAnswerReply}
+use Rattle.csi2.specs.Writers.{shortReply, packetReply, longPacketReply, pixelLineReply}
 
--- each writer's answer by the tests that the source makes
+-- a header and a long packet, with anything after them
+pub header-then : (identifier n : ℕ) (rest : List ℕ)
+    → headerBytes identifier n ++ rest ≡ identifier ∷ n % 256 ∷ n / 256 ∷ checkByte (identifier + 256 * n) ∷ rest
+unfolding headerBytes
+header-then identifier n rest = refl
+
+pub packet-then : (identifier : ℕ) (payload rest : List ℕ)
+    → longPacket identifier payload ++ rest ≡ headerBytes identifier (length payload) ++ (payload ++ (littleEndian (crcOf payload) ++ rest))
+unfolding longPacket
+packet-then identifier payload rest = simp append-assoc
+
+-- a frame start or end
 module _ (identifier : ℕ) (sync : FrameSync) (number size place : ℕ) where
-  pub short-refused : hasRoom size place 4 ≡ false → shortReply identifier sync number size place ≡ refused 8
-  unfolding shortReply headerBytes
-  short-refused e = room-none size place (headerBytes (syncIdentifier identifier sync) number) 4 refl e
+  abbrev header : List ℕ
+  header = headerBytes (syncIdentifier identifier sync) number
 
-  pub short-given : hasRoom size place 4 ≡ true → shortReply identifier sync number size place ≡ given (headerBytes (syncIdentifier identifier sync) number)
+  pub short-by : {room : Bool} → hasRoom size place 4 ≡ room → shortReply identifier sync number size place ≡ cond room (given header) (refused 8)
   unfolding shortReply headerBytes
-  short-given e = room-enough size place (headerBytes (syncIdentifier identifier sync) number) 4 refl e
+  short-by e = room-by size place header 4 refl e
+
+  pub short-given : {bytes : List ℕ} → shortReply identifier sync number size place ≡ given bytes
+      → (hasRoom size place (length header) ≡ true) × (header ≡ bytes)
+  unfolding shortReply
+  short-given e = had-room size place header e
 
 pub length-packet : (identifier : ℕ) (payload : List ℕ) → length (longPacket identifier payload) ≡ 6 + length payload
 unfolding longPacket headerBytes
 length-packet identifier payload =
     length-append (headerBytes identifier (length payload) ++ payload) (littleEndian (crcOf payload)) ∙ omega arith
 
+pub packet-count : (format : Format) (pixels : List ℕ) (identifier n : ℕ) → n ≡ payloadLength format (length pixels)
+    → length (longPacket identifier (payloadOf format pixels)) ≡ 6 + n
+packet-count format pixels identifier n count =
+    length-packet identifier (payloadOf format pixels) ∙ ap (λ (k : ℕ). 6 + k) (length-payload format pixels ∙ sym count)
+
+-- a payload in a long packet
+pub packet-by : (identifier : ℕ) (payload : List ℕ) (size place n : ℕ) → length payload ≡ n → {short room : Bool}
+    → isShort identifier ≡ short → hasRoom size place (6 + n) ≡ room
+    → packetReply identifier payload size place ≡ cond short (refused 7) (cond room (given (longPacket identifier payload)) (refused 8))
+unfolding packetReply
+packet-by identifier payload size place n count s r =
+    let packet = longPacket identifier payload in
+    rw (s, room-by size place packet (6 + n) (rw count at (length-packet identifier payload)) r)
+
+-- a long packet
 module _ (format : Format) (pixels : List ℕ) (identifier size place : ℕ) where
-  pub packet-short : isShort identifier ≡ true → packetReply format pixels identifier size place ≡ refused 7
-  unfolding packetReply
-  packet-short e = rw e
+  abbrev packet : List ℕ
+  packet = longPacket identifier (payloadOf format pixels)
 
-  module _ (long : isShort identifier ≡ false) (n : ℕ) (count : n ≡ payloadLength format (length pixels)) where
-    packet-count : length (longPacket identifier (payloadOf format pixels)) ≡ 6 + n
-    packet-count =
-        length-packet identifier (payloadOf format pixels) ∙ ap (λ (k : ℕ). 6 + k) (length-payload format pixels ∙ sym count)
+  pub long-by : (n : ℕ) → n ≡ payloadLength format (length pixels) → {width short room : Bool} → widthAllowed format (length pixels) ≡ width
+      → isShort identifier ≡ short → hasRoom size place (6 + n) ≡ room
+      → longPacketReply format pixels identifier size place ≡ cond width (cond short (refused 7) (cond room (given packet) (refused 8))) (refused 5)
+  unfolding longPacketReply
+  long-by n count w s r = rw (w, packet-by identifier (payloadOf format pixels) size place n (length-payload format pixels ∙ sym count) s r)
 
-    pub packet-refused : hasRoom size place (6 + n) ≡ false → packetReply format pixels identifier size place ≡ refused 8
-    unfolding packetReply
-    packet-refused e = rw long (room-none size place (longPacket identifier (payloadOf format pixels)) (6 + n) packet-count e)
+  -- where the width is allowed, a long packet is its payload's
+  pub long-good : widthAllowed format (length pixels) ≡ true
+      → longPacketReply format pixels identifier size place ≡ packetReply identifier (payloadOf format pixels) size place
+  unfolding longPacketReply
+  long-good width = rw width
 
-    pub packet-given : hasRoom size place (6 + n) ≡ true
-        → packetReply format pixels identifier size place ≡ given (longPacket identifier (payloadOf format pixels))
-    unfolding packetReply
-    packet-given e = rw long (room-enough size place (longPacket identifier (payloadOf format pixels)) (6 + n) packet-count e)
+  pub long-given : {bytes : List ℕ} → longPacketReply format pixels identifier size place ≡ given bytes
+      → (widthAllowed format (length pixels) ≡ true) × (isShort identifier ≡ false) × (hasRoom size place (length packet) ≡ true) × (packet ≡ bytes)
+  unfolding packetReply longPacketReply
+  long-given e =
+      let width = was-true 5 (widthAllowed format (length pixels)) e in
+      let long = was-false 7 (isShort identifier) (width .1) in
+      let room = had-room size place packet (long .1) in
+      (width .0, long .0, room .0, room .1)
 
--- a line behind the test of its pixels: a refusal of the test, or the packet writer's answer
-module _ (format : Format) (pixels : List ℕ) (identifier : ℕ) (d : List ℕ) (place : ℕ) {check : PixelCheck} (checked : checkOf format pixels ≡ check) where
-  pub line-checked : lineReply format pixels identifier (length d) place ≡ afterCheck check (packetReply format pixels identifier (length d) place)
-  unfolding lineReply
-  line-checked =
-      let next = packetReply format pixels identifier (length d) place in
-      if-pixels format pixels next ∙ ap (λ (k : PixelCheck). afterCheck k next) checked
+  -- a pixel line that is written is a long packet whose pixels fit
+  pub pixel-line-given : {bytes : List ℕ} → pixelLineReply format pixels identifier size place ≡ given bytes
+      → (allFit format pixels ≡ true) × (longPacketReply format pixels identifier size place ≡ given bytes)
+  unfolding pixelLineReply
+  pixel-line-given e = let by = passed format pixels _ e in (by .1, long-good (by .0) ∙ by .2)
 
-  pub forward-checked : (forwarded : Bool)
-      → forwardReply format pixels forwarded identifier (length d) place
-      ≡ afterCheck check (cond forwarded (sentReply (packetReply format pixels identifier (length d) place)) (given lineDropped))
-  unfolding forwardReply
-  forward-checked forwarded =
-      let next = cond forwarded (sentReply (packetReply format pixels identifier (length d) place)) (given lineDropped) in
-      if-pixels format pixels next ∙ ap (λ (k : PixelCheck). afterCheck k next) checked
-
--- the packet writer's answer is that of the line
-pub same-answer : (d : List ℕ) (place : ℕ) {answer known : PacketAnswer} {after : List ℕ} {reply next : Reply (List ℕ)} → reply ≡ next → answer ≡ known
-    → packetAnswerReply answer ≡ countOf next → after ≡ afterReply d place next → (packetAnswerReply known ≡ countOf reply) × (after ≡ afterReply d place reply)
-same-answer d place e k p q = answered-so d place e (ap packetAnswerReply (sym k) ∙ p) q
-
--- the answer of the packet writer as that of a line that was forwarded
-abbrev pub sentCount : Reply ℕ → Reply ForwardedCount
-sentCount (refused number) = refused number
-sentCount (given bytes) = given (sentBytes bytes)
-
-sent-count : (reply : Reply (List ℕ)) → forwardCount (sentReply reply) ≡ sentCount (countOf reply)
-sent-count (refused number) = refl
-sent-count (given bytes) = refl
-
-sent-after : (d : List ℕ) (place : ℕ) (reply : Reply (List ℕ)) → afterForward d place (sentReply reply) ≡ afterReply d place reply
-sent-after d place (refused number) = refl
-sent-after d place (given bytes) = refl
-
--- a line that the test of its pixels refuses, one that is dropped, and one that is sent or refused by the packet writer
-module _ (format : Format) (pixels : List ℕ) (identifier : ℕ) (d : List ℕ) (place : ℕ) where
-  pub forward-refused : (forwarded : Bool) (number : ℕ) → forwardReply format pixels forwarded identifier (length d) place ≡ refused number
-      → (refused number ≡ forwardCount (forwardReply format pixels forwarded identifier (length d) place))
-      × (d ≡ afterForward d place (forwardReply format pixels forwarded identifier (length d) place))
-  forward-refused forwarded number e = (sym (ap forwardCount e), sym (ap (afterForward d place) e))
-
-  module _ (fit : checkOf format pixels ≡ Fit) where
-    pub forward-dropped : (forwarded : Bool) → forwarded ≡ false
-        → (given droppedLine ≡ forwardCount (forwardReply format pixels forwarded identifier (length d) place))
-        × (d ≡ afterForward d place (forwardReply format pixels forwarded identifier (length d) place))
-    forward-dropped forwarded off =
-        let e : forwardReply format pixels forwarded identifier (length d) place ≡ given lineDropped =
-        forward-checked format pixels identifier d place fit forwarded
-        ∙ ap (λ (b : Bool). cond b (sentReply (packetReply format pixels identifier (length d) place)) (given lineDropped)) off in
-        (sym (ap forwardCount e), sym (ap (afterForward d place) e))
-
-    pub forward-sent : (forwarded : Bool) → forwarded ≡ true → {answer known : PacketAnswer} {after : List ℕ} → answer ≡ known
-        → packetAnswerReply answer ≡ countOf (packetReply format pixels identifier (length d) place)
-        → after ≡ afterReply d place (packetReply format pixels identifier (length d) place)
-        → (sentCount (packetAnswerReply known) ≡ forwardCount (forwardReply format pixels forwarded identifier (length d) place))
-        × (after ≡ afterForward d place (forwardReply format pixels forwarded identifier (length d) place))
-    forward-sent forwarded on k p q =
-        let next = packetReply format pixels identifier (length d) place in
-        let e : forwardReply format pixels forwarded identifier (length d) place ≡ sentReply next =
-        forward-checked format pixels identifier d place fit forwarded ∙ ap (λ (b : Bool). cond b (sentReply next) (given lineDropped)) on in
-        (ap sentCount (ap packetAnswerReply (sym k) ∙ p) ∙ sym (sent-count next) ∙ sym (ap forwardCount e), q ∙ sym (sent-after d place next) ∙ sym (ap (afterForward d place) e))
-
--- a packet from its parts: the header, the payload and the checksum, written one behind the other
+-- a packet from its parts: the header, the payload and the checksum, written one after the other
 pub packet-parts : (d₀ d₁ d₂ d₃ payload : List ℕ) (identifier n : ℕ) → length payload ≡ n → 6 + n ≤ length d₀
     → d₁ ≡ written d₀ 0 (headerBytes identifier n) → d₂ ≡ written d₁ 4 payload
     → d₃ ≡ written d₂ (4 + n) (littleEndian (crcOf (take n (drop 4 d₂)))) → d₃ ≡ written d₀ 0 (longPacket identifier payload)

@@ -1,3 +1,2 @@
 pub mod Packets
 pub mod Writers
-pub mod PacketAnswers

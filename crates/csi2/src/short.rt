@@ -2,8 +2,8 @@
 ghost use mathlib.Core.Path.{_≡_};
 ghost use Prim.Native.Nat.{_+_, _≤_};
 ghost use lib.ListN.{length};
-ghost use Rattle.laws.specs.Buffers.{written, afterReply, countOf};
-ghost use Rattle.csi2.specs.Packets.{syncIdentifier, headerBytes};
+ghost use Rattle.laws.specs.Buffers.{written, Writes};
+ghost use Rattle.csi2.specs.Packets.{isShort, syncIdentifier, headerBytes};
 ghost use Rattle.csi2.specs.Writers.{shortAnswerReply, shortReply};
 use crate::header;
 
@@ -17,6 +17,13 @@ pub enum FrameSync {
 pub enum ShortAnswer {
     NoRoom,
     Wrote(usize),
+}
+
+// Whether a packet with that data identifier is short.
+pub fn is_short(identifier: u8) -> bool
+    ensures { λ r. ⌜ r ≡ isShort identifier ⌝ }
+{
+    identifier % 64 <= 0x0F
 }
 
 // The data identifier of a synchronization packet: the virtual channel of `identifier`, and the packet's type.
@@ -37,7 +44,8 @@ fn put_header_at(buf: &mut [u8], place: usize, identifier: u8, n: u16)
     header::put_header(&mut buf[place..], identifier, n);
 }
 
-// Writes, from the place, a frame start or end with its number, on the virtual channel of `identifier`; or refuses it and writes nothing.
+// Writes a frame start or end with its number from the place, on the virtual channel of `identifier`; or refuses it
+// and writes nothing.
 pub fn write_short(
     identifier: u8,
     sync: FrameSync,
@@ -45,9 +53,11 @@ pub fn write_short(
     buf: &mut [u8],
     place: usize,
 ) -> ShortAnswer
-    ensures { λ r. ⌜ (shortAnswerReply r ≡ countOf (shortReply identifier sync number (length (now (buf .entry))) place)) × (now (buf .exit) ≡ afterReply (now (buf .entry)) place (shortReply identifier sync number (length (now (buf .entry))) place)) ⌝ }
+    ensures { λ r. ⌜ Writes (now (buf .entry)) place
+        (shortReply identifier sync number (length (now (buf .entry))) place)
+        (shortAnswerReply r) (now (buf .exit)) ⌝ }
 {
-    if !room::has_room(buf.len(), place, 4) {
+    if !buffers::has_room(buf.len(), place, 4) {
         return ShortAnswer::NoRoom;
     }
     put_header_at(buf, place, sync_identifier(identifier, sync), number);

@@ -1,15 +1,20 @@
--- The 32 columns: a data bit's is its constant, a check bit's is the bit itself, none is zero and no two are the same, each by one computed test.
+-- The 32 columns: a data bit's is its constant, a check bit's is the bit itself, none is zero, no two are the same, and all have an odd number of ones,
+-- each by one computed test.
 -- Assumes nothing.
-use mathlib.Core.Path.{_≡_, refl, sym, ap, _∙_}
-use mathlib.Core.Bool.{Bool, true, false, _||_, not}
+use mathlib.Core.Path.{_≡_, sym, ap, ap₂, _∙_}
+use mathlib.Core.Bool.{Bool, _||_, not}
+use mathlib.Core.List.{List, [], _∷_}
 use Prim.Native.Nat.{ℕ, _+_, _-_, _^_, _<_, _≤_}
 use native.Mathlib.Omega.{arith}
-use borrow.Author.Tests.{eq-eqb, eqb-true}
-use lib.Dec.{T, eqb, eqb→eq}
+use borrow.Author.Tests.{eq-eqb}
+use lib.Bits.{bitXor}
+use lib.Dec.{eqb, eqb→eq}
+use Rattle.laws.proofs.Absurd.{zero-not-one}
 use Rattle.laws.proofs.Tables.{allBelow, below-at}
-use Rattle.ecc.specs.CheckBytes.{onesAmong, checkByte}
+use Rattle.ecc.specs.CheckBytes.{onesAmong, oddAmong, checkByte}
 use Rattle.ecc.specs.Columns.{dataColumn}
 use Rattle.ecc.specs.Syndrome.{syndromeOf, columnOf}
+use Rattle.ecc.proofs.Linear.{odd-linear}
 
 dataBit : ℕ → Bool
 dataBit i = eqb (columnOf i) (dataColumn i)
@@ -33,15 +38,11 @@ nonzero i = not (eqb (columnOf i) 0)
 
 pub column-nonzero : (i : ℕ) → i < 32 → columnOf i ≡ 0 → ⊥
 unfolding allBelow nonzero columnOf syndromeOf checkByte onesAmong
-column-nonzero i h e = go (eqb (columnOf i) 0) (eq-eqb (columnOf i) 0 e) (below-at nonzero 32 tt i h)
-  where
-    go : (b : Bool) → b ≡ true → T (not b) → ⊥
-    go true q t = t
-    go false q t = let z : _≡_ {A = ℕ} 0 1 = cc in omega arith
+column-nonzero i h e = rw (eq-eqb (columnOf i) 0 e) at (below-at nonzero 32 tt i h)
 
 -- two columns that are the same are those of one bit
 apart : ℕ → ℕ → Bool
-apart i j = eqb i j || not (eqb (columnOf i) (columnOf j))
+apart i j = not (eqb (columnOf i) (columnOf j)) || eqb i j
 
 apartFromAll : ℕ → Bool
 apartFromAll i = allBelow (apart i) 32
@@ -49,10 +50,20 @@ apartFromAll i = allBelow (apart i) 32
 pub columns-apart : (i j : ℕ) → i < 32 → j < 32 → columnOf i ≡ columnOf j → i ≡ j
 unfolding allBelow apartFromAll apart columnOf syndromeOf checkByte onesAmong
 columns-apart i j hi hj e =
-    go (eqb i j) refl (eqb (columnOf i) (columnOf j)) (eq-eqb (columnOf i) (columnOf j) e)
-    (below-at (apart i) 32 (below-at apartFromAll 32 tt i hi) j hj)
-  where
-    go : (a : Bool) → eqb i j ≡ a → (b : Bool) → b ≡ true → T (a || not b) → i ≡ j
-    go true q b r t = eqb-true i j q
-    go false q true r t = absurd t
-    go false q false r t = let z : _≡_ {A = ℕ} 0 1 = cc in absurd (omega arith)
+    eqb→eq i j (rw (eq-eqb (columnOf i) (columnOf j) e) at (below-at (apart i) 32 (below-at apartFromAll 32 tt i hi) j hj))
+
+-- every column has an odd number of ones, so the exclusive-or of two is no column
+eightBits : List ℕ
+eightBits = 0 ∷ 1 ∷ 2 ∷ 3 ∷ 4 ∷ 5 ∷ 6 ∷ 7 ∷ []
+
+oddColumn : ℕ → Bool
+oddColumn i = eqb (oddAmong eightBits (columnOf i)) 1
+
+column-odd : (i : ℕ) → i < 32 → oddAmong eightBits (columnOf i) ≡ 1
+unfolding allBelow oddColumn eightBits columnOf syndromeOf checkByte onesAmong
+column-odd i h = eqb→eq (oddAmong eightBits (columnOf i)) 1 (below-at oddColumn 32 tt i h)
+
+pub two-no-column : (i j k : ℕ) → i < 32 → j < 32 → k < 32 → columnOf k ≡ bitXor (columnOf i) (columnOf j) → ⊥
+two-no-column i j k hi hj hk e =
+    let even = odd-linear eightBits (columnOf i) (columnOf j) ∙ ap₂ bitXor (column-odd i hi) (column-odd j hj) in
+    zero-not-one (sym even ∙ ap (oddAmong eightBits) (sym e) ∙ column-odd k hk)

@@ -13,7 +13,7 @@ use Rattle.ecc.specs.CheckBytes.{onesAmong, oddAmong, P0, P1, P2, P3, P4
 use Rattle.ecc.specs.HeaderCorrection.{isRight, flipped}
 use Rattle.ecc.specs.Syndrome.{syndromeOf, columnOf}
 
-odd-linear : (places : List ℕ) (a b : ℕ) → oddAmong places (bitXor a b) ≡ bitXor (oddAmong places a) (oddAmong places b)
+pub odd-linear : (places : List ℕ) (a b : ℕ) → oddAmong places (bitXor a b) ≡ bitXor (oddAmong places a) (oddAmong places b)
 unfolding onesAmong
 odd-linear [] a b = refl
 odd-linear (i ∷ places) a b =
@@ -52,7 +52,7 @@ check-linear a b =
     ∙ odd-linear (dataBits k) a b
     ∙ sym (digit-xor k (checkByte a) (checkByte b) ∙ ap₂ bitXor (digit-check k a h) (digit-check k b h)))
 
-syndrome-linear : (a b : ℕ) → syndromeOf (bitXor a b) ≡ bitXor (syndromeOf a) (syndromeOf b)
+pub syndrome-linear : (a b : ℕ) → syndromeOf (bitXor a b) ≡ bitXor (syndromeOf a) (syndromeOf b)
 unfolding syndromeOf
 syndrome-linear a b =
     ap₂ bitXor (ap checkByte (xor-mod a b 24) ∙ check-linear (a % 2 ^ 24) (b % 2 ^ 24)) (xor-shr a b 24)

@@ -1,24 +1,31 @@
--- What the reading of a header means: what is accepted is near, what is near is read, and the bit that was flipped is named.
+-- What the reading of a header means: what is accepted is near, what is near is read, one flipped bit is named, and two are refused.
 -- Assumes nothing.
 use mathlib.Core.Path.{_≡_, refl, sym, ap, _∙_}
 use mathlib.Core.Bool.{Bool, true, false, cond}
 use mathlib.Core.Logic.{_⊎_, inl, inr}
-use Prim.Native.Nat.{ℕ, zero, suc, _+_, _-_, _^_, _<_, _≤_}
+use Prim.Native.Nat.{ℕ, zero, suc, _+_, _-_, _/_, _%_, _^_, _<_, _≤_}
 use native.Mathlib.Omega.{arith}
 use borrow.Author.Tests.{eq-eqb, ne-eqb, eqb-true}
 use lib.Bits.{bitXor, xor-lt, xor-self, xor-comm}
 use lib.Count.{ones}
-use Rattle.laws.specs.Reply.{refused, given}
+use Rattle.laws.specs.Reply.{Reply, refused, given}
+use Rattle.laws.proofs.Absurd.{zero-not-one}
 use Rattle.laws.proofs.Bitwise.{xor-assoc, xor-twice, xor-zero-eq, at-most-one, ones-pow}
+use Rattle.ecc.specs.CheckBytes.{checkByte}
 use Rattle.ecc.specs.declared.Corrected.{Corrected}
 use Rattle.ecc.specs.declared.Corrected.the-variants.{Nothing, HeaderBit}
-use Rattle.ecc.specs.HeaderCorrection.{isRight, flipped, ReadHeader, correctFrom, correctionOf, differences, AcceptedIsNear, NearIsRead, FlippedIsNamed}
+use Rattle.ecc.specs.HeaderCorrection.{isRight, flipped, ReadHeader, correctFrom, correctionOf, differences}
+use Rattle.ecc.specs.HeaderCorrection.{AcceptedIsNear, NearIsRead, FlippedIsNamed, TwoFlippedRefused}
 use Rattle.ecc.specs.Syndrome.{syndromeOf, columnOf}
-use Rattle.ecc.proofs.Linear.{right-syndrome, right-flipped}
-use Rattle.ecc.proofs.ColumnLaws.{column-nonzero, columns-apart}
+use Rattle.ecc.proofs.Linear.{syndrome-linear, right-syndrome, right-flipped}
+use Rattle.ecc.proofs.ColumnLaws.{column-nonzero, columns-apart, two-no-column}
 
 -- the reading of a header, and of its bits from bit i on, by the cases
 module _ (header : ℕ) where
+  pub right-by : header / 2 ^ 24 ≡ checkByte (header % 2 ^ 24) → isRight header ≡ true
+  unfolding isRight
+  right-by e = eq-eqb (header / 2 ^ 24) (checkByte (header % 2 ^ 24)) e
+
   pub correct-right : isRight header ≡ true → correctionOf header ≡ given (record { header = header; corrected = Nothing })
   unfolding correctionOf
   correct-right e = rw e
@@ -50,33 +57,46 @@ module _ (header : ℕ) where
     pub column-later : (columnOf i ≡ syndromeOf header → ⊥) → correctFrom header i (32 - i) ≡ correctFrom header (i + 1) (32 - (i + 1))
     column-later e = correct-later (right-flipped header i ∙ ne-eqb (columnOf i) (syndromeOf header) e)
 
-  -- what mending gives is right, and one bit away
-  corrected-near : (n i : ℕ) (read : ReadHeader) → correctFrom header i n ≡ given read → (isRight (read .header) ≡ true) × (differences header (read .header) ≤ 1)
-  unfolding correctFrom
-  corrected-near zero i read e = let z : _≡_ {A = ℕ} 0 1 = cc in absurd (omega arith)
-  corrected-near (suc n) i read e = go (isRight (flipped header i)) refl e (corrected-near n (suc i) read)
-    where
-      go : (b : Bool) → isRight (flipped header i) ≡ b
-          → cond b (given (record { header = flipped header i; corrected = HeaderBit i })) (correctFrom header (suc i) n) ≡ given read
-          → (correctFrom header (suc i) n ≡ given read → (isRight (read .header) ≡ true) × (differences header (read .header) ≤ 1))
-          → (isRight (read .header) ≡ true) × (differences header (read .header) ≤ 1)
-      go true r q ih =
-          let s : flipped header i ≡ read .header = cc in (
-            ap isRight (sym s) ∙ r,
-            (let d : differences header (read .header) ≡ 1 = ap (differences header) (sym s) ∙ ap ones (xor-twice header (2 ^ i)) ∙ ones-pow i in omega arith),
-          )
-      go false r q ih = ih q
+  -- what holds of refusal 10 and of every right header that the reading can give holds of the reading
+  module _ (P : Reply ReadHeader → Type 0) (refusal : P (refused 10))
+      (bit : (i : ℕ) → i < 32 → isRight (flipped header i) ≡ true → P (given (record { header = flipped header i; corrected = HeaderBit i }))) where
+    from-bit : (n i : ℕ) → i + n ≤ 32 → P (correctFrom header i n)
+    unfolding correctFrom
+    from-bit zero i h = refusal
+    from-bit (suc n) i h = go (isRight (flipped header i)) refl (from-bit n (suc i) (omega arith))
+      where
+        go : (b : Bool) → isRight (flipped header i) ≡ b → P (correctFrom header (suc i) n)
+            → P (cond b (given (record { header = flipped header i; corrected = HeaderBit i })) (correctFrom header (suc i) n))
+        go true r later = bit i (omega arith) r
+        go false r later = later
+
+    pub by-correction : (isRight header ≡ true → P (given (record { header = header; corrected = Nothing }))) → P (correctionOf header)
+    unfolding correctionOf
+    by-correction right = go (isRight header) refl
+      where
+        go : (b : Bool) → isRight header ≡ b → P (cond b (given (record { header = header; corrected = Nothing })) (correctFrom header 0 32))
+        go true r = right r
+        go false r = from-bit 32 0 (omega arith)
 
 pub accepted-is-near : AcceptedIsNear
-unfolding correctionOf ones
-accepted-is-near header read e = go (isRight header) refl e
+unfolding ones
+accepted-is-near header read =
+    by-correction header (λ reply. reply ≡ given read → (isRight (read .header) ≡ true) × (differences header (read .header) ≤ 1))
+    (λ e. zero-not-one (cc)) one none
   where
-    go : (b : Bool) → isRight header ≡ b → cond b (given (record { header = header; corrected = Nothing })) (correctFrom header 0 32) ≡ given read
+    one : (i : ℕ) → i < 32 → isRight (flipped header i) ≡ true → given (record { header = flipped header i; corrected = HeaderBit i }) ≡ given read
         → (isRight (read .header) ≡ true) × (differences header (read .header) ≤ 1)
-    go true r q =
+    one i h r e =
+        let s : flipped header i ≡ read .header = cc in
+        let d : differences header (read .header) ≡ 1 = ap (differences header) (sym s) ∙ ap ones (xor-twice header (2 ^ i)) ∙ ones-pow i in
+        (ap isRight (sym s) ∙ r, omega arith)
+
+    none : isRight header ≡ true → given (record { header = header; corrected = Nothing }) ≡ given read
+        → (isRight (read .header) ≡ true) × (differences header (read .header) ≤ 1)
+    none r e =
         let s : header ≡ read .header = cc in
-        (ap isRight (sym s) ∙ r, (let d : differences header (read .header) ≡ 0 = ap (differences header) (sym s) ∙ ap ones (xor-self header) in omega arith))
-    go false r q = corrected-near header 32 0 read q
+        let d : differences header (read .header) ≡ 0 = ap (differences header) (sym s) ∙ ap ones (xor-self header) in
+        (ap isRight (sym s) ∙ r, omega arith)
 
 -- the bit i makes a header right, so no earlier one does
 module _ (header i : ℕ) (h : i < 32) (right : isRight (flipped header i) ≡ true) where
@@ -114,3 +134,17 @@ flipped-is-named right i hr hi r =
     let back : flipped (flipped right i) i ≡ right =
     xor-assoc right (2 ^ i) (2 ^ i) ∙ ap (bitXor right) (xor-self (2 ^ i)) ∙ xor-comm right 0 in
     corrected-read (flipped right i) i hi (ap isRight back ∙ r) ∙ rw back
+
+pub two-flipped-refused : TwoFlippedRefused
+unfolding columnOf
+two-flipped-refused right i j hi hj apart r =
+    let two = flipped (flipped right i) j in
+    let none : syndromeOf right ≡ 0 = eqb-true (syndromeOf right) 0 (sym (right-syndrome right) ∙ r) in
+    let both : syndromeOf two ≡ bitXor (columnOf i) (columnOf j) =
+    syndrome-linear (flipped right i) (2 ^ j)
+    ∙ ap (λ (t : ℕ). bitXor t (columnOf j)) (syndrome-linear right (2 ^ i) ∙ ap (λ (t : ℕ). bitXor t (columnOf i)) none) in
+    by-correction two (λ reply. reply ≡ refused 10) refl
+    (λ k h e. absurd (two-no-column i j k hi hj h (eqb-true (columnOf k) (syndromeOf two) (sym (right-flipped two k) ∙ e) ∙ both)))
+    (λ e.
+    let z : syndromeOf two ≡ 0 = eqb-true (syndromeOf two) 0 (sym (right-syndrome two) ∙ e) in
+    absurd (apart (columns-apart i j hi hj (xor-zero-eq (columnOf i) (columnOf j) (sym both ∙ z)))))

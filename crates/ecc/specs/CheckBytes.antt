@@ -32,8 +32,10 @@ P4 = 4 ∷ 5 ∷ 6 ∷ 7 ∷ 8 ∷ 9 ∷ 16 ∷ 17 ∷ 18 ∷ 19 ∷ 20 ∷ 22 �
 abbrev pub P5 : List ℕ
 P5 = 10 ∷ 11 ∷ 12 ∷ 13 ∷ 14 ∷ 15 ∷ 16 ∷ 17 ∷ 18 ∷ 19 ∷ 21 ∷ 22 ∷ 23 ∷ []
 
--- "With the three first bytes as bits D0 to D23, low bit of the identifier first, check bit k is 1 exactly when an odd number of ones stands among its data
--- bits [...] Bits 6 and 7 of the check byte are 0." The word is the three bytes as one number, the identifier lowest.
+-- "With the three first bytes as bits D0 to D23, low bit of the identifier first, check bit k is 1 exactly when an odd
+-- number of ones stands among its data bits [...] Bits 6 and 7 of the check byte are 0." The word is the three bytes as
+-- one number, the identifier lowest.
 unfoldable pub checkByte : ℕ → ℕ
 checkByte word =
-    oddAmong P0 word + 2 * oddAmong P1 word + 4 * oddAmong P2 word + 8 * oddAmong P3 word + 16 * oddAmong P4 word + 32 * oddAmong P5 word
+    oddAmong P0 word + 2 * oddAmong P1 word + 4 * oddAmong P2 word
+    + 8 * oddAmong P3 word + 16 * oddAmong P4 word + 32 * oddAmong P5 word

@@ -1,4 +1,5 @@
--- The check byte worked out from one constant for each data bit: L4. The constant of a bit is its column where document 01's lists P0 to P5 are the rows.
+-- The check byte worked out from one constant for each data bit: L4. The constant of a bit is its column where document
+-- 01's lists P0 to P5 are the rows.
 -- Assumes nothing.
 use mathlib.Core.Path.{_≡_}
 use mathlib.Core.Bool.{cond}

@@ -1,4 +1,5 @@
--- How the source finds a wrong bit: by the difference between the check byte that a header has and the one that it should have. No rule of the papers.
+-- How the source finds a wrong bit: by the difference between the check byte that a header has and the one that it
+-- should have. No rule of the papers.
 -- Assumes nothing.
 use Prim.Native.Nat.{ℕ, _/_, _%_, _^_}
 use lib.Bits.{bitXor}

@@ -9,8 +9,8 @@ ghost use Rattle.ecc.specs.HeaderCorrection.{flipped, correctionReply, c
 ghost use Rattle.ecc.specs.declared.Corrected.the-variants.{HeaderBit};
 ghost use Rattle.ecc.specs.Syndrome.{syndromeOf};
 
-// The constant of each data bit, to be held beside the standard's table. Bit k of a constant is 1 where check bit Pk counts the data
-// bit. docs/CHECK-BYTES.md has the table as a page.
+// The constant of each data bit, to be held beside the standard's table. Bit k of a constant is 1 where check bit Pk
+// counts the data bit. docs/CHECK-BYTES.md has the table as a page.
 const COLUMNS: [u8; 24] = [
     // D0 to D5: data type
     0x07, // D0
@@ -48,8 +48,9 @@ fn column_table() -> [u8; 24]
     COLUMNS
 }
 
-// The check byte of a header whose three first bytes are `word`, the identifier lowest: the exclusive-or of the constants of the data
-// bits that are 1. (A mask of the bit, and no `if`: with one the 24 steps would wait for each other.)
+// The check byte of a header whose three first bytes are `word`, the identifier lowest: the exclusive-or of the
+// constants of the data bits that are 1. (A mask of the bit, and no `if`: with one the 24 steps would wait for each
+// other.)
 pub fn check_byte(word: u32) -> u8
     ensures { λ r. ⌜ r ≡ checkByte word ⌝ }
 {
@@ -98,7 +99,8 @@ fn correct_check_bit(header: u32, syndrome: u8) -> Correction
     Correction::Uncorrectable
 }
 
-// Corrects the one bit that makes the difference `syndrome`: the data bit whose constant it is, or a check bit, if there is one.
+// Corrects the one bit that makes the difference `syndrome`: the data bit whose constant it is, or a check bit, if
+// there is one.
 fn correct_bit(header: u32, syndrome: u8) -> Correction
     requires { ⌜ syndrome ≡ syndromeOf header ⌝ }
     ensures { λ r. ⌜ correctionReply r ≡ correctFrom header 0 32 ⌝ }

@@ -1,14 +1,14 @@
 // The answers of `ecc`, `packing`, `unpacking`, `csi2` and `reader` as numbers of 64 bits.
 ghost use mathlib.Core.Path.{_≡_};
-ghost use Prim.Native.Nat.{_*_, _^_};
+ghost use Prim.Native.Nat.{_+_, _*_, _^_};
 ghost use Rattle.laws.specs.Reply.{onReply};
 ghost use Rattle.ecc.specs.HeaderCorrection.{correctionReply};
 ghost use Rattle.packing.specs.Packing.{packAnswerReply};
 ghost use Rattle.unpacking.specs.Unpacking.{unpackAnswerReply};
-ghost use Rattle.csi2.specs.Writers.{lineAnswerReply};
+ghost use Rattle.csi2.specs.Writers.{longAnswerReply};
 ghost use Rattle.reader.specs.Reader.{packetReadReply};
 ghost use Rattle.exports.specs.Numbers.{replyNumber, correctedNumber, correctionNumber, packetNumber};
-use csi2::line::LineAnswer;
+use csi2::long::LongAnswer;
 use ecc::Corrected;
 use ecc::Correction;
 use packing::PackAnswer;
@@ -32,15 +32,27 @@ fn of_corrected(corrected: Corrected) -> u16
     }
 }
 
-// What a header is read as: its four bytes, and the bit above them.
+// A header's four bytes, and the bit above them.
+fn with_bit(header: u32, bit: u16) -> u64
+    ensures { λ r. ⌜ r ≡ header + 2 ^ 32 * bit ⌝ }
+{
+    (header as u64) + 0x100000000 * (bit as u64)
+}
+
+// An identifier, the word count above it, and the bit above that.
+fn with_count(identifier: u8, count: u16, bit: u16) -> u64
+    ensures { λ r. ⌜ r ≡ identifier + 2 ^ 8 * count + 2 ^ 24 * bit ⌝ }
+{
+    (identifier as u64) + 0x100 * (count as u64) + 0x1000000 * (bit as u64)
+}
+
+// What a header is read as.
 pub(crate) fn of_correction(correction: Correction) -> u64
     ensures { λ r. ⌜ r ≡ replyNumber (onReply correctionNumber (correctionReply correction)) ⌝ }
 {
     match correction {
         Correction::Uncorrectable => of_refusal(10),
-        Correction::Header { header, corrected } => {
-            (header as u64) + 0x100000000 * (of_corrected(corrected) as u64)
-        }
+        Correction::Header { header, corrected } => with_bit(header, of_corrected(corrected)),
     }
 }
 
@@ -69,19 +81,19 @@ pub(crate) fn of_unpack_answer(answer: UnpackAnswer) -> u64
 }
 
 // How many bytes were written.
-pub(crate) fn of_line_answer(answer: LineAnswer) -> u64
-    ensures { λ r. ⌜ r ≡ replyNumber (lineAnswerReply answer) ⌝ }
+pub(crate) fn of_long_answer(answer: LongAnswer) -> u64
+    ensures { λ r. ⌜ r ≡ replyNumber (longAnswerReply answer) ⌝ }
 {
     match answer {
-        LineAnswer::WidthNotAllowed => of_refusal(5),
-        LineAnswer::PixelTooLarge => of_refusal(6),
-        LineAnswer::ShortType => of_refusal(7),
-        LineAnswer::NoRoom => of_refusal(8),
-        LineAnswer::Wrote(bytes) => bytes as u64,
+        LongAnswer::WidthNotAllowed => of_refusal(5),
+        LongAnswer::PixelTooLarge => of_refusal(6),
+        LongAnswer::ShortType => of_refusal(7),
+        LongAnswer::NoRoom => of_refusal(8),
+        LongAnswer::Wrote(bytes) => bytes as u64,
     }
 }
 
-// What a packet's header says: the identifier, the word count above it, and the bit above that.
+// What a packet's header says.
 pub(crate) fn of_packet_read(read: PacketRead) -> u64
     ensures { λ r. ⌜ r ≡ replyNumber (onReply packetNumber (packetReadReply read)) ⌝ }
 {
@@ -93,10 +105,6 @@ pub(crate) fn of_packet_read(read: PacketRead) -> u64
             data_identifier,
             word_count,
             corrected,
-        } => {
-            (data_identifier as u64)
-                + 0x100 * (word_count as u64)
-                + 0x1000000 * (of_corrected(corrected) as u64)
-        }
+        } => with_count(data_identifier, word_count, of_corrected(corrected)),
     }
 }

@@ -1,9 +1,8 @@
 // Frame numbers.
 ghost use mathlib.Core.Path.{_≡_};
-ghost use Prim.Native.Nat.{_+_, _*_, _≤_};
+ghost use Prim.Native.Nat.{_+_, _*_};
 ghost use Rattle.hub.specs.Hubs.{frameNumber};
 ghost use Rattle.frames.specs.Events.{nextNumber, startNumber};
-use crate::port;
 use hub::Hub;
 use hub::LastFrame;
 use registers::map;
@@ -40,11 +39,11 @@ fn next_number(largest: u16, old: u16) -> u16
 
 // The number of the next frame start on a port.
 pub(crate) fn start_number(hub: Hub, port: u8) -> u16
-    requires { ⌜ port ≤ 3 ⌝ }
     ensures { λ r. ⌜ r ≡ startNumber hub port ⌝ }
 {
     let file = hub.registers;
     let largest = high_low(file.shared[map::MAX_FRM_HI], file.shared[map::MAX_FRM_LO]);
-    let old = number_of(port::last_frame(hub, port));
-    next_number(largest, old)
+    let frames = hub::port_frames(hub, port);
+    let last = frames.last;
+    next_number(largest, number_of(last))
 }

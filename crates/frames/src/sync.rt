@@ -1,36 +1,60 @@
 // The packet of a frame start or end, forwarded or dropped.
-ghost use mathlib.Core.Path.{_≡_};
+ghost use Prim.Native.Nat.{_≤_};
 ghost use lib.ListN.{length};
+ghost use Rattle.hub.specs.Routes.{dataIdentifier, portRoute};
 ghost use Rattle.csi2.specs.Writers.{shortReply};
-ghost use Rattle.frames.specs.Events.{toldOf, bufferAfter};
-ghost use Rattle.frames.specs.Exits.{syncAnswerReply, exitReply};
-use crate::port::Exit;
+ghost use Rattle.frames.specs.Events.{forwardOn, eventAnswerReply, Answered};
+use crate::AfterEvent;
+use crate::EventAnswer;
+use crate::EventRefusal;
 use csi2::short;
 use csi2::short::FrameSync;
 use csi2::short::ShortAnswer;
+use formats::Format;
+use hub::Hub;
+use hub::forwarding;
+use hub::forwarding::Route;
 
-pub(crate) enum SyncAnswer {
-    NoRoom,
-    Dropped,
-    Sent(usize),
-}
-
-// Writes the packet of a frame start or end where the port's frames are forwarded.
+// A frame start or end of that number on a port: the hub becomes `moved`, unless the packet is refused.
 pub(crate) fn put_sync(
-    exit: Exit,
-    identifier: u8,
+    hub: Hub,
+    moved: Hub,
+    port: u8,
+    format: Format,
     sync: FrameSync,
     number: u16,
     buf: &mut [u8],
     place: usize,
-) -> SyncAnswer
-    ensures { λ r. ⌜ (syncAnswerReply (exit .csi) r ≡ toldOf (exitReply exit (shortReply identifier sync number (length (now (buf .entry))) place))) × (now (buf .exit) ≡ bufferAfter (now (buf .entry)) place (exitReply exit (shortReply identifier sync number (length (now (buf .entry))) place))) ⌝ }
+) -> AfterEvent
+    requires { ⌜ port ≤ 3 ⌝ }
+    ensures { λ r. ⌜ Answered hub moved (now (buf .entry)) place
+        (forwardOn (portRoute (hub .registers) port)
+        (shortReply (dataIdentifier (hub .registers) port format) sync number (length (now (buf .entry))) place))
+        (eventAnswerReply (r .answer)) (r .hub) (now (buf .exit)) ⌝ }
 {
-    if !exit.forwarded {
-        return SyncAnswer::Dropped;
-    }
-    match short::write_short(identifier, sync, number, buf, place) {
-        ShortAnswer::NoRoom => SyncAnswer::NoRoom,
-        ShortAnswer::Wrote(bytes) => SyncAnswer::Sent(bytes),
+    let identifier = forwarding::data_identifier(hub, port, format);
+    match forwarding::route_of(hub, port) {
+        Route::NoSuchPort => AfterEvent {
+            answer: EventAnswer::Refused(EventRefusal::NoSuchPort),
+            hub,
+        },
+        Route::Off => AfterEvent {
+            answer: EventAnswer::Dropped,
+            hub: moved,
+        },
+        Route::Output {
+            csi,
+            raw10_vc: _,
+            raw12_vc: _,
+        } => match short::write_short(identifier, sync, number, buf, place) {
+            ShortAnswer::NoRoom => AfterEvent {
+                answer: EventAnswer::Refused(EventRefusal::NoRoom),
+                hub,
+            },
+            ShortAnswer::Wrote(bytes) => AfterEvent {
+                answer: EventAnswer::Sent { csi, bytes },
+                hub: moved,
+            },
+        },
     }
 }

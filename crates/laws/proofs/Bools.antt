@@ -10,7 +10,7 @@ pub both : (a b : Bool) → (a && b) ≡ true → (a ≡ true) × (b ≡ true)
 both true b e = (refl, e)
 both false b e = let z : _≡_ {A = ℕ} 0 1 = cc in absurd (omega arith)
 
--- a test that fails fails behind any other
+-- a test that fails fails after any other
 pub never : (a : Bool) → (a && false) ≡ false
 never true = refl
 never false = refl

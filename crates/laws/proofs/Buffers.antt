@@ -1,4 +1,4 @@
--- Laws of a buffer that was written into from a place, and of an answer with the buffer behind it.
+-- Laws of a buffer that was written into from a place, and of an answer with the buffer after it.
 -- Assumes nothing.
 use mathlib.Core.Path.{_≡_, refl, sym, ap, ap₂, _∙_}
 use mathlib.Core.Bool.{Bool, true, false}
@@ -10,10 +10,10 @@ use native.Mathlib.Omega.{arith}
 use borrow.Author.Tests.{le-leb, lt-leb, leb-true, leb-false}
 use lib.Dec.{leb}
 use lib.ListN.{length, take, drop, getD, set, length-append, length-drop, take-append-drop}
-use lib.Seq.{take-all, drop-length, length-take-le, drop-cons, take-add, take-at, drop-at, drop-append-add, sets, sets-eq, paste, paste-suc, drop-drop}
+use lib.Seq.{take-all, drop-length, length-take-le, drop-cons, take-at, drop-at, drop-append-add, sets, sets-eq, paste, paste-suc, drop-drop}
 use borrow.Rule.Slice.PartMut.{putMid, midOf, postOf, post-is}
 use Rattle.laws.specs.Reply.{Reply, refused, given}
-use Rattle.laws.specs.Buffers.{written, hasRoom, ifRoom, afterReply, countOf}
+use Rattle.laws.specs.Buffers.{written, hasRoom, afterReply, countOf, Writes}
 
 -- nothing written
 pub written-nil : (d : List ℕ) (at : ℕ) → written d at [] ≡ d
@@ -23,7 +23,7 @@ written-nil d at =
     ∙ ap (λ (l : List ℕ). l ++ drop at d) (append-nil (take at d))
     ∙ take-append-drop at d
 
--- a run of stores, one behind the other
+-- a run of stores, one after the other
 pub written-sets : (d : List ℕ) (at : ℕ) (bytes : List ℕ) → at + length bytes ≤ length d → sets d at bytes ≡ written d at bytes
 unfolding written
 written-sets d at bytes h = sets-eq bytes d at h
@@ -38,7 +38,7 @@ module _ (d : List ℕ) (at : ℕ) (a : List ℕ) (fits : at + length a ≤ leng
   length-written =
       length-append (take at d ++ a) (drop (at + length a) d) ∙ ap₂ _+_ head-length (length-drop (at + length a) d) ∙ omega arith
 
-  -- more bytes behind those written
+  -- more bytes after those written
   pub written-more : (b : List ℕ) → at + length a + length b ≤ length d → written (written d at a) (at + length a) b ≡ written d at (a ++ b)
   unfolding written
   written-more b h =
@@ -100,9 +100,6 @@ run-eq zero i l h = refl
 run-eq (suc k) i l h =
     ap (take (suc k)) (drop-cons l i 0 (omega arith)) ∙ ap (λ (r : List ℕ). getD l i 0 ∷ r) (run-eq k (suc i) l (omega arith))
 
-pub take-run : (k i : ℕ) (l : List ℕ) → i + k ≤ length l → take (i + k) l ≡ take i l ++ run k i l
-take-run k i l h = take-add i k l ∙ ap (λ (r : List ℕ). take i l ++ r) (run-eq k i l h)
-
 -- the test for room without the sum, which may be too large for the machine
 pub room-test : (size place needed : ℕ) → needed ≤ size → leb place (size - needed) ≡ hasRoom size place needed
 room-test size place needed h = go (leb place (size - needed)) refl
@@ -111,27 +108,16 @@ room-test size place needed h = go (leb place (size - needed)) refl
     go true e = let l = leb-true place (size - needed) e in sym (le-leb (place + needed) size (omega arith))
     go false e = let l = leb-false place (size - needed) e in sym (lt-leb (place + needed) size (omega arith))
 
--- bytes by that test, where the source knows how many they are
-module _ (size place : ℕ) (bytes : List ℕ) (n : ℕ) (count : length bytes ≡ n) where
-  pub room-none : hasRoom size place n ≡ false → ifRoom size place bytes ≡ refused 8
-  unfolding ifRoom
-  room-none e = rw (count, e)
-
-  pub room-enough : hasRoom size place n ≡ true → ifRoom size place bytes ≡ given bytes
-  unfolding ifRoom
-  room-enough e = rw (count, e)
-
 -- a refusal is the answer, and the buffer stays
-pub refusal : (d : List ℕ) (place number : ℕ) {reply : Reply (List ℕ)} → reply ≡ refused number
-    → (refused number ≡ countOf reply) × (d ≡ afterReply d place reply)
-refusal d place number e = (sym (ap countOf e), sym (ap (afterReply d place) e))
+pub refusal : (d : List ℕ) (place number : ℕ) {reply : Reply (List ℕ)} → reply ≡ refused number → Writes d place reply (refused number) d
+refusal d place number e = record { answer = sym (ap countOf e); buffer = sym (ap (afterReply d place) e) }
 
 -- the bytes that were written are the answer and stand in the buffer
 pub writing : (d : List ℕ) (place n : ℕ) (bytes : List ℕ) {after : List ℕ} {reply : Reply (List ℕ)} → reply ≡ given bytes → n ≡ length bytes
-    → after ≡ written d place bytes → (given n ≡ countOf reply) × (after ≡ afterReply d place reply)
-writing d place n bytes e l a = (ap given l ∙ sym (ap countOf e), a ∙ sym (ap (afterReply d place) e))
+    → after ≡ written d place bytes → Writes d place reply (given n) after
+writing d place n bytes e l a = record { answer = ap given l ∙ sym (ap countOf e); buffer = a ∙ sym (ap (afterReply d place) e) }
 
 -- what was answered by one reply was answered by an equal one
 pub answered-so : (d : List ℕ) (place : ℕ) {answer : Reply ℕ} {after : List ℕ} {reply next : Reply (List ℕ)} → reply ≡ next
-    → answer ≡ countOf next → after ≡ afterReply d place next → (answer ≡ countOf reply) × (after ≡ afterReply d place reply)
-answered-so d place e p q = (p ∙ sym (ap countOf e), q ∙ sym (ap (afterReply d place) e))
+    → Writes d place next answer after → Writes d place reply answer after
+answered-so d place e w = record { answer = w .answer ∙ sym (ap countOf e); buffer = w .buffer ∙ sym (ap (afterReply d place) e) }

@@ -19,7 +19,7 @@ module _ (limit : ℕ) where
   below-to (suc n) (element ∷ l) below zero = below 0
   below-to (suc n) (element ∷ l) below (suc i) = below-to n l (λ k. below (suc k)) i
 
-  -- and of one list behind another
+  -- and of one list after another
   pub below-append : (a b : List ℕ) → AllBelow limit a → AllBelow limit b → AllBelow limit (a ++ b)
   below-append [] b first second i = second i
   below-append (element ∷ a) b first second zero = first 0

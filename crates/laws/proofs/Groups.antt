@@ -1,4 +1,5 @@
--- Laws of a list cut into groups, over the size of a group and what it is turned into: their length, one more group, and one stored behind others.
+-- Laws of a list cut into groups, over the size of a group and what it is turned into: their length, one more group,
+-- and one stored after others.
 -- Assumes nothing.
 use mathlib.Core.Path.{_≡_, refl, sym, ap, ap₂, _∙_}
 use mathlib.Core.List.{List, [], _∷_, _++_, append-assoc, append-nil}
@@ -14,7 +15,7 @@ use Rattle.laws.specs.Groups.{groups}
 use Rattle.laws.proofs.Buffers.{written-more, run, run-eq}
 use Rattle.laws.proofs.Elements.{below-from, below-to, below-append}
 
--- one more group behind n
+-- one more group after n
 next-group : (size : ℕ) (f : List ℕ → List ℕ) (n : ℕ) (l : List ℕ)
     → groups size f (suc n) l ≡ groups size f n l ++ f (take size (drop (n * size) l))
 unfolding groups
@@ -48,7 +49,7 @@ module _ (size out : ℕ) (f : List ℕ → List ℕ) (turned : (g : List ℕ) �
       ∙ ap₂ _+_ (turned (take size l) (length-take-le size l (omega arith))) (length-groups n (drop size l) (omega arith))
       ∙ omega arith
 
-  -- a buffer that holds g groups, and one more group stored behind them
+  -- a buffer that holds g groups, and one more group stored after them
   pub group-stored : (l d b e : List ℕ) (g count : ℕ) → g < count → count * size ≤ length l → count * out ≤ length d
       → b ≡ written d 0 (groups size f g l) → e ≡ written b (out * g) (f (run size (size * g) l)) → e ≡ written d 0 (groups size f (g + 1) l)
   group-stored l d b e g count h whole room eb ee =

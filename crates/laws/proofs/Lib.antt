@@ -1,3 +1,4 @@
+pub mod Absurd
 pub mod Bits
 pub mod Bitwise
 pub mod MaskedWrites
@@ -6,3 +7,5 @@ pub mod Buffers
 pub mod Bools
 pub mod Elements
 pub mod Groups
+pub mod GroupLoops
+pub mod Replies

@@ -4,8 +4,7 @@ use mathlib.Core.Path.{_≡_, refl, sym, ap, ap₂, _∙_}
 use mathlib.Core.Bool.{Bool, true, false, cond}
 use Prim.Native.Nat.{ℕ, _-_, _/_, _%_, _^_, _<_}
 use native.Mathlib.Omega.{arith}
-use native.Mathlib.Nat.{mod-eq-of-lt}
-use lib.Bits.{bitAnd, bitOr, and-le-r, or-lt, and-mask, and-zero-r, or-zero-l, or-zero-r}
+use lib.Bits.{bitAnd, bitOr, and-le-r, or-lt}
 use lib.Dec.{eqb}
 use Rattle.laws.specs.Bits.{digit, bit}
 use Rattle.laws.specs.MaskedWrites.{masked}
@@ -56,14 +55,3 @@ module _ (mask : ℕ) (small : mask < 256) where
       hidden : (b : Bool) (l v o : ℕ) {m : ℕ} → m ≡ cond b v o → cond b l m ≡ cond b l o
       hidden true l v o e = refl
       hidden false l v o e = e
-
--- with every bit writable the value is taken whole, with none the old one stays
-pub masked-all : (old value : ℕ) → value < 256 → masked 255 old value ≡ value
-unfolding masked
-masked-all old value h =
-    ap₂ bitOr (and-mask value 8 ∙ mod-eq-of-lt h) (and-zero-r old) ∙ or-zero-r value
-
-pub masked-none : (old value : ℕ) → old < 256 → masked 0 old value ≡ old
-unfolding masked
-masked-none old value h =
-    ap₂ bitOr (and-zero-r value) (and-mask old 8 ∙ mod-eq-of-lt h) ∙ or-zero-l old

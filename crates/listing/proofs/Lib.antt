@@ -1,5 +1,4 @@
 pub mod TextLaws
+pub mod RecordLaws
 pub mod TraceLaws
-pub mod CountLaws
-pub mod RoomLaws
-pub mod PutLaws
+pub mod AnswerLaws

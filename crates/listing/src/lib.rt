@@ -2,13 +2,12 @@
 ghost use mathlib.Core.Path.{_≡_};
 ghost use lib.ListN.{length};
 ghost use Rattle.laws.specs.Reply.{onReply};
-ghost use Rattle.laws.specs.Buffers.{afterReply, countOf};
-ghost use Rattle.listing.specs.Listing.{traceCalls, traceText, recordText};
-ghost use Rattle.listing.specs.Answers.{textReply};
-ghost use Rattle.listing.specs.Contracts.{countReply};
+ghost use Rattle.laws.specs.Buffers.{Writes};
+ghost use Rattle.listing.specs.Listing.{traceCalls, traceText, recordText, listingReply};
+ghost use Rattle.listing.specs.Contracts.{countReply, bytesIfRoom};
+use text::CALL_LENGTH;
 
 mod record;
-mod room;
 mod text;
 
 // How many calls the text has, or why there is no text.
@@ -20,7 +19,7 @@ pub(crate) enum CountAnswer {
 }
 
 // How many bytes were put, or why there is no text.
-pub enum TextAnswer {
+pub enum ListingAnswer {
     NoRecord,
     AddressOutOfRange,
     NoTextForm,
@@ -39,7 +38,7 @@ fn count_calls(trace: &[u8]) -> CountAnswer
     let mut from = 0;
     let mut total = 0;
     while from < trace.len() {
-        let left = record::left_of(trace, from);
+        let left = buffers::bytes_from(trace, from);
         let counted = record::record_calls(left, from == 0);
         let CountAnswer::Calls(n) = counted else {
             return counted;
@@ -50,12 +49,32 @@ fn count_calls(trace: &[u8]) -> CountAnswer
     CountAnswer::Calls(total)
 }
 
-// Puts the text of the record at the start of the bytes into the buffer from the place on; `first` says that it is the trace's first.
-pub fn record_text(bytes: &[u8], first: bool, out: &mut [u8], place: usize) -> TextAnswer
-    ensures { λ r. ⌜ (textReply r ≡ countOf (recordText first (now (bytes .entry)) (length (now (out .entry))) place)) × (now (out .exit) ≡ afterReply (now (out .entry)) place (recordText first (now (bytes .entry)) (length (now (out .entry))) place)) ⌝ }
+// The answer for a text with so many calls, from the place on in a buffer of that size.
+fn answer_of(counted: CountAnswer, size: usize, place: usize) -> ListingAnswer
+    ensures { λ r. ⌜ listingReply r ≡ bytesIfRoom size place (countReply counted) ⌝ }
 {
-    let answer = room::answer_of(record::record_calls(bytes, first), out.len(), place);
-    let TextAnswer::Text(_) = answer else {
+    match counted {
+        CountAnswer::NoRecord => ListingAnswer::NoRecord,
+        CountAnswer::AddressOutOfRange => ListingAnswer::AddressOutOfRange,
+        CountAnswer::NoTextForm => ListingAnswer::NoTextForm,
+        CountAnswer::Calls(calls) => {
+            if !buffers::has_room_for(size, place, calls, CALL_LENGTH) {
+                return ListingAnswer::NoRoom;
+            }
+            ListingAnswer::Text(CALL_LENGTH * calls)
+        }
+    }
+}
+
+// Puts the text of the record at the start of the bytes into the buffer from the place on; `first` says that it is the
+// trace's first.
+pub fn record_text(bytes: &[u8], first: bool, out: &mut [u8], place: usize) -> ListingAnswer
+    ensures { λ r. ⌜ Writes (now (out .entry)) place
+        (recordText first (now (bytes .entry)) (length (now (out .entry))) place)
+        (listingReply r) (now (out .exit)) ⌝ }
+{
+    let answer = answer_of(record::record_calls(bytes, first), out.len(), place);
+    let ListingAnswer::Text(_) = answer else {
         return answer;
     };
     text::put_record(bytes, first, out, place);
@@ -63,11 +82,13 @@ pub fn record_text(bytes: &[u8], first: bool, out: &mut [u8], place: usize) -> T
 }
 
 // Puts the text of a whole trace at the start of the buffer.
-pub fn to_text(trace: &[u8], out: &mut [u8]) -> TextAnswer
-    ensures { λ r. ⌜ (textReply r ≡ countOf (traceText (now (trace .entry)) (length (now (out .entry))))) × (now (out .exit) ≡ afterReply (now (out .entry)) 0 (traceText (now (trace .entry)) (length (now (out .entry))))) ⌝ }
+pub fn to_text(trace: &[u8], out: &mut [u8]) -> ListingAnswer
+    ensures { λ r. ⌜ Writes (now (out .entry)) 0
+        (traceText (now (trace .entry)) (length (now (out .entry))))
+        (listingReply r) (now (out .exit)) ⌝ }
 {
-    let answer = room::answer_of(count_calls(trace), out.len(), 0);
-    let TextAnswer::Text(_) = answer else {
+    let answer = answer_of(count_calls(trace), out.len(), 0);
+    let ListingAnswer::Text(_) = answer else {
         return answer;
     };
     text::put_records(trace, out);

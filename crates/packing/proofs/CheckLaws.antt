@@ -3,7 +3,7 @@
 use mathlib.Core.Path.{_≡_, refl, sym, ap, _∙_}
 use mathlib.Core.Bool.{Bool, true, false, cond, _&&_}
 use mathlib.Core.List.{List, [], _∷_}
-use Prim.Native.Nat.{ℕ, suc, _+_, _^_, _≤_, _<_, _%_}
+use Prim.Native.Nat.{ℕ, zero, suc, _+_, _^_, _≤_, _<_, _%_}
 use native.Mathlib.Numerals.{add-one}
 use native.Mathlib.Omega.{arith}
 use borrow.Author.Tests.{lt-ltb, le-ltb, le-leb, lt-leb, eq-eqb, ltb-true, ltb-false, leb-true, eqb-true}
@@ -12,16 +12,20 @@ use lib.Dec.{ltb, leb, eqb}
 use lib.ListN.{length, getD, drop, drop-of-length-le}
 use lib.Pow.{pow-pos}
 use lib.Seq.{drop-cons}
+use Rattle.laws.proofs.Absurd.{zero-not-one}
 use Rattle.laws.proofs.Bitwise.{or-assoc}
 use Rattle.laws.proofs.Bools.{both}
-use Rattle.laws.specs.Reply.{Reply, refused}
+use Rattle.laws.specs.Reply.{Reply, given}
 use Rattle.laws.specs.Buffers.{ifRoom}
+use Rattle.laws.specs.Elements.{AllBelow}
 use Rattle.formats.specs.declared.Format.{Format}
+use Rattle.formats.specs.declared.Format.the-variants.{Raw10, Raw12}
 use Rattle.packing.specs.declared.check.PixelCheck.{PixelCheck}
 use Rattle.packing.specs.declared.check.PixelCheck.the-variants.{WidthNotAllowed, PixelTooLarge, Fit}
-use Rattle.packing.specs.Raw.{groupPixels, lowBits, pixelFits, allFit, widthAllowed, payloadOf}
-use Rattle.packing.specs.Packing.{ifPixels, checkOf, afterCheck, packLineReply}
+use Rattle.packing.specs.Raw.{groupPixels, lowBits, pixelLimit, pixelFits, allFit, widthAllowed, payloadOf}
+use Rattle.packing.specs.Packing.{ifPixels, checkOf, afterCheck, packReply}
 use Rattle.packing.specs.Checking.{orAll}
+use Rattle.laws.proofs.Replies.{had-room}
 
 -- an or is below a power of two exactly where both its parts are
 or-below : (k a b : ℕ) → ltb (bitOr a b) (2 ^ k) ≡ (ltb a (2 ^ k) && ltb b (2 ^ k))
@@ -35,11 +39,32 @@ or-below k a b = go (ltb a (2 ^ k)) refl (ltb b (2 ^ k)) refl
     go true p false q = le-ltb (bitOr a b) (2 ^ k) (let h = ltb-false b (2 ^ k) q in let l = least .1 in omega arith)
     go false p y q = le-ltb (bitOr a b) (2 ^ k) (let h = ltb-false a (2 ^ k) p in let l = least .0 in omega arith)
 
-pub all-below : (format : Format) (pixels : List ℕ) → ltb (orAll pixels) (2 ^ (8 + lowBits format)) ≡ allFit format pixels
+-- the limit of a pixel is a power of two, and so positive
+limit-power : (format : Format) → pixelLimit format ≡ 2 ^ (8 + lowBits format)
+limit-power Raw10 = refl
+limit-power Raw12 = refl
+
+pub limit-positive : (format : Format) → 0 < pixelLimit format
+limit-positive format = rw (limit-power format) (pow-pos (8 + lowBits format))
+
+pub all-below : (format : Format) (pixels : List ℕ) → ltb (orAll pixels) (pixelLimit format) ≡ allFit format pixels
 unfolding orAll allFit
-all-below format [] = lt-ltb 0 (2 ^ (8 + lowBits format)) (pow-pos (8 + lowBits format))
+all-below format [] = lt-ltb 0 (pixelLimit format) (limit-positive format)
 all-below format (pixel ∷ pixels) =
-    or-below (8 + lowBits format) pixel (orAll pixels) ∙ ap (λ (b : Bool). pixelFits format pixel && b) (all-below format pixels)
+    rw (limit-power format) (or-below (8 + lowBits format) pixel (orAll pixels))
+    ∙ ap (λ (b : Bool). pixelFits format pixel && b) (all-below format pixels)
+
+-- the test of all pixels, as what holds of each
+pub fit-below : (format : Format) (pixels : List ℕ) → allFit format pixels ≡ true → AllBelow (pixelLimit format) pixels
+unfolding allFit
+fit-below format [] e i = limit-positive format
+fit-below format (pixel ∷ pixels) e zero = ltb-true pixel (pixelLimit format) (both (ltb pixel (pixelLimit format)) (allFit format pixels) e .0)
+fit-below format (pixel ∷ pixels) e (suc i) = fit-below format pixels (both (ltb pixel (pixelLimit format)) (allFit format pixels) e .1) i
+
+pub below-fit : (format : Format) (pixels : List ℕ) → AllBelow (pixelLimit format) pixels → allFit format pixels ≡ true
+unfolding allFit
+below-fit format [] below = refl
+below-fit format (pixel ∷ pixels) below = rw (lt-ltb pixel (pixelLimit format) (below 0)) (below-fit format pixels (λ i. below (suc i)))
 
 -- the loop's sum of bits so far, with those of the rest
 pub or-next : (pixels : List ℕ) (i all : ℕ) → i < length pixels → bitOr all (orAll (drop i pixels)) ≡ bitOr (bitOr all (getD pixels i 0)) (orAll (drop (i + 1) pixels))
@@ -80,46 +105,42 @@ module _ (format : Format) (width : ℕ) where
   allowed-small e = width-tells e .1
 
 module _ (format : Format) (pixels : List ℕ) where
-  pub check-width : widthAllowed format (length pixels) ≡ false → checkOf format pixels ≡ WidthNotAllowed
+  -- what the test finds, by its two questions
+  pub check-by : {width fit : Bool} → widthAllowed format (length pixels) ≡ width → allFit format pixels ≡ fit
+      → checkOf format pixels ≡ cond width (cond fit Fit PixelTooLarge) WidthNotAllowed
   unfolding checkOf
-  check-width e = rw e
+  check-by e f = rw (e, f)
 
-  pub check-large : widthAllowed format (length pixels) ≡ true → allFit format pixels ≡ false → checkOf format pixels ≡ PixelTooLarge
-  unfolding checkOf
-  check-large e f = rw (e, f)
+  -- the answer after the test
+  pub checked : {A : Type 0} (next : Reply A) {check : PixelCheck} → checkOf format pixels ≡ check → ifPixels format pixels next ≡ afterCheck check next
+  checked next e = ap (λ (check : PixelCheck). afterCheck check next) e
 
-  pub check-fit : widthAllowed format (length pixels) ≡ true → allFit format pixels ≡ true → checkOf format pixels ≡ Fit
+  -- what is not refused has passed the test
+  pub passed : {A : Type 0} (next : Reply A) {a : A} → ifPixels format pixels next ≡ given a
+      → (widthAllowed format (length pixels) ≡ true) × (allFit format pixels ≡ true) × (next ≡ given a)
   unfolding checkOf
-  check-fit e f = rw (e, f)
-
-  -- what a passed test tells
-  pub fit-allowed : checkOf format pixels ≡ Fit → widthAllowed format (length pixels) ≡ true
-  unfolding checkOf
-  fit-allowed e = go (widthAllowed format (length pixels)) (allFit format pixels) e
+  passed next {a} e = go (widthAllowed format (length pixels)) (allFit format pixels) e
     where
-      go : (a b : Bool) → cond a (cond b Fit PixelTooLarge) WidthNotAllowed ≡ Fit → a ≡ true
-      go true b q = refl
-      go false b q = let z : _≡_ {A = ℕ} 0 1 = cc in absurd (omega arith)
+      go : (width fit : Bool) → afterCheck (cond width (cond fit Fit PixelTooLarge) WidthNotAllowed) next ≡ given a
+          → (width ≡ true) × (fit ≡ true) × (next ≡ given a)
+      go true true q = (refl, refl, q)
+      go true false q = zero-not-one (cc)
+      go false fit q = zero-not-one (cc)
 
--- the answer behind the test
-pub if-pixels : {A : Type 0} (format : Format) (pixels : List ℕ) (next : Reply A) → ifPixels format pixels next ≡ afterCheck (checkOf format pixels) next
-unfolding checkOf
-if-pixels format pixels next = go (widthAllowed format (length pixels)) (allFit format pixels)
-  where
-    go : (a b : Bool) → cond a (cond b next (refused 6)) (refused 5) ≡ afterCheck (cond a (cond b Fit PixelTooLarge) WidthNotAllowed) next
-    go true true = refl
-    go true false = refl
-    go false b = refl
+  -- where the pixels are good, the width is
+  pub good-width : checkOf format pixels ≡ Fit → widthAllowed format (length pixels) ≡ true
+  good-width e = passed {A = Unit} (given tt) (checked (given tt) e) .0
 
--- the test's answer by its name and by the paper's number
-pub check-told : {A : Type 0} (format : Format) (pixels : List ℕ) (next : Reply A) {check : PixelCheck} → check ≡ checkOf format pixels
-    → (check ≡ checkOf format pixels) × (afterCheck check next ≡ ifPixels format pixels next)
-check-told format pixels next e = (e, ap (λ (k : PixelCheck). afterCheck k next) e ∙ sym (if-pixels format pixels next))
+module _ (format : Format) (pixels : List ℕ) (size place : ℕ) where
+  -- a pixel line that is packed, and one whose pixels are good
+  pub pack-given : {payload : List ℕ} → packReply format pixels size place ≡ given payload
+      → (widthAllowed format (length pixels) ≡ true) × (allFit format pixels ≡ true) × (payloadOf format pixels ≡ payload)
+  unfolding packReply
+  pack-given e =
+      let by = passed format pixels (ifRoom size place (payloadOf format pixels)) e in
+      (by .0, by .1, had-room size place (payloadOf format pixels) (by .2) .1)
 
--- a payload behind the test of its pixels: a refusal of the test, or the answer behind it
-pub pack-checked : (format : Format) (pixels d : List ℕ) (place : ℕ) {check : PixelCheck} → checkOf format pixels ≡ check
-    → packLineReply format pixels (length d) place ≡ afterCheck check (ifRoom (length d) place (payloadOf format pixels))
-unfolding packLineReply
-pack-checked format pixels d place checked =
-    let next = ifRoom (length d) place (payloadOf format pixels) in
-    if-pixels format pixels next ∙ ap (λ (k : PixelCheck). afterCheck k next) checked
+  pub pack-good : widthAllowed format (length pixels) ≡ true → allFit format pixels ≡ true
+      → packReply format pixels size place ≡ ifRoom size place (payloadOf format pixels)
+  unfolding packReply
+  pack-good width fit = checked format pixels (ifRoom size place (payloadOf format pixels)) (check-by format pixels width fit)

@@ -1,4 +1,5 @@
--- How many bytes a payload has, and how many groups of a line have room: for the functions that the packet writer calls, which the papers do not name.
+-- How many bytes a payload has, and how many groups of a pixel line have room: for the functions that the packet
+-- writer calls, which the papers do not name.
 -- Assumes nothing.
 use mathlib.Core.Bool.{cond}
 use Prim.Native.Nat.{ℕ, _*_, _/_}
@@ -6,7 +7,7 @@ use lib.Dec.{leb}
 use Rattle.formats.specs.declared.Format.{Format}
 use Rattle.packing.specs.Raw.{groupPixels, groupBytes}
 
--- how many bytes the whole groups of a line of that width are packed into
+-- how many bytes the whole groups of a pixel line of that width are packed into
 abbrev pub payloadLength : Format → ℕ → ℕ
 payloadLength format width = width / groupPixels format * groupBytes format
 

@@ -1,4 +1,4 @@
--- What the packer of a line answers, and when it refuses (document 01, "Refusal numbers").
+-- What the packer of a pixel line answers, and when it refuses (document 01, "Refusal numbers").
 -- Assumes nothing.
 use mathlib.Core.Bool.{cond}
 use mathlib.Core.List.{List}
@@ -12,22 +12,27 @@ use Rattle.packing.specs.declared.check.PixelCheck.{PixelCheck}
 use Rattle.packing.specs.declared.check.PixelCheck.the-variants.{WidthNotAllowed, PixelTooLarge, Fit}
 use Rattle.packing.specs.Raw.{payloadOf, widthAllowed, allFit}
 
--- what follows, if the pixels are good; otherwise 5: "width not allowed for the format"; 6: "a pixel does not fit the format"
-abbrev pub ifPixels : {A : Type 0} → Format → List ℕ → Reply A → Reply A
-ifPixels format pixels next = cond (widthAllowed format (length pixels)) (cond (allFit format pixels) next (refused 6)) (refused 5)
-
--- the answer of the test alone, and the paper's number for each of its cases; where the pixels are good, what follows
+-- what the test of a pixel line finds: its width first, then its pixels
 unfoldable pub checkOf : Format → List ℕ → PixelCheck
-checkOf format pixels = cond (widthAllowed format (length pixels)) (cond (allFit format pixels) Fit PixelTooLarge) WidthNotAllowed
+checkOf format pixels =
+    cond (widthAllowed format (length pixels)) (cond (allFit format pixels) Fit PixelTooLarge) WidthNotAllowed
 
+-- 5: "width not allowed for the format"; 6: "a pixel does not fit the format"; what follows, if the pixels are good
 abbrev pub afterCheck : {A : Type 0} → PixelCheck → Reply A → Reply A
 afterCheck WidthNotAllowed next = refused 5
 afterCheck PixelTooLarge next = refused 6
 afterCheck Fit next = next
 
+abbrev pub ifPixels : {A : Type 0} → Format → List ℕ → Reply A → Reply A
+ifPixels format pixels next = afterCheck (checkOf format pixels) next
+
+-- for a writer that tests the width alone
+abbrev pub ifWidth : {A : Type 0} → Format → List ℕ → Reply A → Reply A
+ifWidth format pixels next = cond (widthAllowed format (length pixels)) next (refused 5)
+
 -- a payload alone, as a packet would be (the papers speak of packets): 5, 6, 8
-unfoldable pub packLineReply : Format → List ℕ → ℕ → ℕ → Reply (List ℕ)
-packLineReply format pixels size place = ifPixels format pixels (ifRoom size place (payloadOf format pixels))
+unfoldable pub packReply : Format → List ℕ → ℕ → ℕ → Reply (List ℕ)
+packReply format pixels size place = ifPixels format pixels (ifRoom size place (payloadOf format pixels))
 
 -- the paper's numbers and values for each case of the answer
 abbrev pub packAnswerReply : PackAnswer → Reply ℕ

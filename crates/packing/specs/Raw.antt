@@ -35,11 +35,11 @@ lowByte format (pixel ∷ pixels) = pixel % 2 ^ lowBits format + 2 ^ lowBits for
 unfoldable pub packGroup : Format → List ℕ → List ℕ
 packGroup format pixels = map (upperByte format) pixels ++ (lowByte format pixels ∷ [])
 
--- the first n groups, one behind the other
+-- the first n groups, one after the other
 abbrev pub packGroups : Format → ℕ → List ℕ → List ℕ
 packGroups format n pixels = groups (groupPixels format) (packGroup format) n pixels
 
--- the payload of a line: all its groups
+-- the payload of a pixel line: all its groups
 unfoldable pub payloadOf : Format → List ℕ → List ℕ
 payloadOf format pixels = packGroups format (length pixels / groupPixels format) pixels
 
@@ -48,8 +48,12 @@ unfoldable pub widthAllowed : Format → ℕ → Bool
 widthAllowed format width = leb 1 width && leb width 4096 && eqb (width % groupPixels format) 0
 
 -- a pixel fits the format: it is below 2 ^ 10 or 2 ^ 12
+abbrev pub pixelLimit : Format → ℕ
+pixelLimit Raw10 = 2 ^ 10
+pixelLimit Raw12 = 2 ^ 12
+
 abbrev pub pixelFits : Format → ℕ → Bool
-pixelFits format pixel = ltb pixel (2 ^ (8 + lowBits format))
+pixelFits format pixel = ltb pixel (pixelLimit format)
 
 unfoldable pub allFit : Format → List ℕ → Bool
 allFit format [] = true

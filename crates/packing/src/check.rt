@@ -1,10 +1,7 @@
-// Whether a line has a width that its format allows, and pixels that fit it.
+// Whether a pixel line has a width that its format allows, and pixels that fit it.
 ghost use mathlib.Core.Path.{_≡_};
-ghost use Prim.Native.Nat.{_+_, _^_};
-ghost use lib.ListN.{length};
-ghost use Rattle.laws.specs.Reply.{given};
-ghost use Rattle.packing.specs.Raw.{lowBits, widthAllowed};
-ghost use Rattle.packing.specs.Packing.{ifPixels, checkOf, afterCheck};
+ghost use Rattle.packing.specs.Raw.{pixelLimit, widthAllowed};
+ghost use Rattle.packing.specs.Packing.{checkOf};
 ghost use Rattle.packing.specs.Checking.{orAll};
 use formats::Format;
 
@@ -17,7 +14,7 @@ pub enum PixelCheck {
 
 // What every pixel of the format is below.
 fn pixel_limit(format: Format) -> u16
-    ensures { λ r. ⌜ r ≡ 2 ^ (8 + lowBits format) ⌝ }
+    ensures { λ r. ⌜ r ≡ pixelLimit format ⌝ }
 {
     match format {
         Format::Raw10 => 1024,
@@ -38,8 +35,8 @@ fn or_all(pixels: &[u16]) -> u16
     all
 }
 
-// Whether a line may have that width.
-fn width_allowed(format: Format, width: usize) -> bool
+// Whether a pixel line may have that width.
+pub fn width_allowed(format: Format, width: usize) -> bool
     ensures { λ r. ⌜ r ≡ widthAllowed format width ⌝ }
 {
     if width < 1 {
@@ -54,9 +51,9 @@ fn width_allowed(format: Format, width: usize) -> bool
     }
 }
 
-// Tests the width, then the pixels: 5, 6, or the line is good.
+// Tests the width, then the pixels.
 pub fn check_pixels(format: Format, pixels: &[u16]) -> PixelCheck
-    ensures { λ r. ⌜ (r ≡ checkOf format (now (pixels .entry))) × (afterCheck r (given (length (now (pixels .entry)))) ≡ ifPixels format (now (pixels .entry)) (given (length (now (pixels .entry))))) ⌝ }
+    ensures { λ r. ⌜ r ≡ checkOf format (now (pixels .entry)) ⌝ }
 {
     if !width_allowed(format, pixels.len()) {
         return PixelCheck::WidthNotAllowed;

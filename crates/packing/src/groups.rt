@@ -38,7 +38,7 @@ fn put_two(part: &mut [u8], o: usize, a: u16, b: u16)
     part[o + 2] = (a % 16 + 16 * (b % 16)) as u8;
 }
 
-// Packs so many groups of a line at the start of `part`, as RAW10.
+// Packs so many groups of a pixel line at the start of `part`, as RAW10.
 fn pack_raw10(pixels: &[u16], part: &mut [u8], count: usize)
     requires { ⌜ (count * 4 ≤ length (now pixels)) × (count * 5 ≤ length (now part)) ⌝ }
     ensures { λ _. ⌜ now (part .exit) ≡ written (now (part .entry)) 0 (packGroups Raw10 count (now (pixels .entry))) ⌝ }
@@ -73,7 +73,10 @@ fn pack_raw12(pixels: &[u16], part: &mut [u8], count: usize)
 
 // Packs at the start of `part` the whole groups that the pixels have and the part has room for.
 fn pack(format: Format, pixels: &[u16], part: &mut [u8])
-    ensures { λ _. ⌜ now (part .exit) ≡ written (now (part .entry)) 0 (packGroups format (groupsInRoom format (length (now (pixels .entry))) (length (now (part .entry)))) (now (pixels .entry))) ⌝ }
+    ensures { λ _. ⌜ now (part .exit) ≡ written (now (part .entry)) 0
+        (packGroups format
+        (groupsInRoom format (length (now (pixels .entry))) (length (now (part .entry))))
+        (now (pixels .entry))) ⌝ }
 {
     match format {
         Format::Raw10 => pack_raw10(pixels, part, least_of(pixels.len() / 4, part.len() / 5)),
@@ -83,7 +86,10 @@ fn pack(format: Format, pixels: &[u16], part: &mut [u8])
 
 // Packs from the place the whole groups that the pixels have and the buffer has room for, and tests nothing else.
 pub fn pack_groups(format: Format, pixels: &[u16], buf: &mut [u8], place: usize)
-    ensures { λ _. ⌜ now (buf .exit) ≡ written (now (buf .entry)) place (packGroups format (groupsInRoom format (length (now (pixels .entry))) (length (now (buf .entry)) - place)) (now (pixels .entry))) ⌝ }
+    ensures { λ _. ⌜ now (buf .exit) ≡ written (now (buf .entry)) place
+        (packGroups format
+        (groupsInRoom format (length (now (pixels .entry))) (length (now (buf .entry)) - place))
+        (now (pixels .entry))) ⌝ }
 {
     if place <= buf.len() {
         pack(format, pixels, &mut buf[place..]);

@@ -1,10 +1,8 @@
 // RAW10 and RAW12: the pixels of a line packed into the bytes of a payload.
 ghost use mathlib.Core.Path.{_≡_};
-ghost use mathlib.Core.Bool.{true};
 ghost use lib.ListN.{length};
-ghost use Rattle.laws.specs.Buffers.{ifRoom, afterReply, countOf};
-ghost use Rattle.packing.specs.Raw.{payloadOf, widthAllowed};
-ghost use Rattle.packing.specs.Packing.{packAnswerReply, packLineReply};
+ghost use Rattle.laws.specs.Buffers.{Writes};
+ghost use Rattle.packing.specs.Packing.{packAnswerReply, packReply};
 ghost use Rattle.packing.specs.Lengths.{payloadLength};
 use check::PixelCheck;
 use formats::Format;
@@ -20,7 +18,7 @@ pub enum PackAnswer {
     Packed(usize),
 }
 
-// How many bytes the whole groups of a line of that width are packed into.
+// How many bytes the whole groups of a pixel line of that width are packed into.
 pub fn payload_length(format: Format, width: u16) -> usize
     ensures { λ r. ⌜ r ≡ payloadLength format width ⌝ }
 {
@@ -31,26 +29,22 @@ pub fn payload_length(format: Format, width: u16) -> usize
     }
 }
 
-// Packs a line whose pixels were tested, or refuses it.
-fn pack_tested(format: Format, pixels: &[u16], buf: &mut [u8], place: usize) -> PackAnswer
-    requires { ⌜ widthAllowed format (length (now pixels)) ≡ true ⌝ }
-    ensures { λ r. ⌜ (packAnswerReply r ≡ countOf (ifRoom (length (now (buf .entry))) place (payloadOf format (now (pixels .entry))))) × (now (buf .exit) ≡ afterReply (now (buf .entry)) place (ifRoom (length (now (buf .entry))) place (payloadOf format (now (pixels .entry))))) ⌝ }
-{
-    let needed = payload_length(format, pixels.len() as u16);
-    if !room::has_room(buf.len(), place, needed) {
-        return PackAnswer::NoRoom;
-    }
-    groups::pack_groups(format, pixels, buf, place);
-    PackAnswer::Packed(needed)
-}
-
-// Packs a line from the place; or refuses it and writes nothing.
-pub fn pack_line(format: Format, pixels: &[u16], buf: &mut [u8], place: usize) -> PackAnswer
-    ensures { λ r. ⌜ (packAnswerReply r ≡ countOf (packLineReply format (now (pixels .entry)) (length (now (buf .entry))) place)) × (now (buf .exit) ≡ afterReply (now (buf .entry)) place (packLineReply format (now (pixels .entry)) (length (now (buf .entry))) place)) ⌝ }
+// Packs a pixel line from the place; or refuses it and writes nothing.
+pub fn pack_pixels(format: Format, pixels: &[u16], buf: &mut [u8], place: usize) -> PackAnswer
+    ensures { λ r. ⌜ Writes (now (buf .entry)) place
+        (packReply format (now (pixels .entry)) (length (now (buf .entry))) place)
+        (packAnswerReply r) (now (buf .exit)) ⌝ }
 {
     match check::check_pixels(format, pixels) {
         PixelCheck::WidthNotAllowed => PackAnswer::WidthNotAllowed,
         PixelCheck::PixelTooLarge => PackAnswer::PixelTooLarge,
-        PixelCheck::Fit => pack_tested(format, pixels, buf, place),
+        PixelCheck::Fit => {
+            let needed = payload_length(format, pixels.len() as u16);
+            if !buffers::has_room(buf.len(), place, needed) {
+                return PackAnswer::NoRoom;
+            }
+            groups::pack_groups(format, pixels, buf, place);
+            PackAnswer::Packed(needed)
+        }
     }
 }

@@ -1,10 +1,5 @@
-pub mod EventReplies
 pub mod RecordPlays
-pub mod TextLengths
-pub mod RecordReplies
+pub mod SoundPlays
 pub mod PlayingLaws
-pub mod RestLaws
-pub mod ShownRecords
-pub mod WindowsLaws
-pub mod WindowPlays
-pub mod TurnsLaws
+pub mod EndLaws
+pub mod WindowLaws

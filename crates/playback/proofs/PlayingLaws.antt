@@ -1,70 +1,105 @@
--- With the room that the player lends for packets, refusal 8 never occurs.
+-- Laws of the records of some bytes: enough of them asked for, the next one, none left, and that 8 never occurs.
 -- Assumes nothing.
-use mathlib.Core.Path.{_≡_, refl, ap, _∙_}
+use mathlib.Core.Path.{_≡_, refl, sym, ap, _∙_}
 use mathlib.Core.Bool.{Bool, true, false, cond}
-use mathlib.Core.List.{List, [], _∷_, List·Memᴰ, List·Memᴰ·head, List·Memᴰ·tail, List·Memᴰ·not-nil}
-use Prim.Native.Nat.{ℕ, zero, suc}
+use mathlib.Core.List.{List, List·Memᴰ, List·Memᴰ·head, List·Memᴰ·tail, List·Memᴰ·not-nil}
+use mathlib.Core.Option.{Option}
+use Prim.Native.Nat.{ℕ, zero, suc, _+_, _≤_}
 use native.Mathlib.Omega.{arith}
+use borrow.Author.Tests.{eqb-false, eq-eqb, ne-eqb}
 use lib.Dec.{eqb}
-use lib.ListN.{length, drop, replicate, length-replicate}
-use Rattle.laws.specs.Reply.{Reply, refused, given}
-use Rattle.laws.proofs.Buffers.{length-written}
+use lib.ListN.{length, drop, replicate, length-drop, length-replicate}
+use Rattle.laws.specs.Reply.{refusedWith}
 use Rattle.hub.specs.declared.Hub.{Hub}
-use Rattle.hub.specs.Hubs.{hubAt, creationOf}
-use Rattle.frames.specs.Events.{Outcome, bufferAfter}
-use Rattle.trace.specs.Records.{TraceRecord, hubRecord, writeRecord, readRecord, writeQuestion, readQuestion, startRecord, endRecord, lineRecord, recordOf}
-use Rattle.playback.specs.Playing.{Played, playHub, playRecord, usedBy, answersFrom, packetRoom, EightNeverOccurs}
-use Rattle.playback.proofs.EventReplies.{Sound, refusing, dropping, sending, start-sound, line-sound, end-sound}
-use Rattle.playback.proofs.RecordReplies.{record-found, not-eight, played-printable}
+use Rattle.hub.specs.Hubs.{hubAt}
+use Rattle.trace.specs.Framing.{recordLength}
+use Rattle.trace.specs.Records.{recordOf}
+use Rattle.trace.proofs.RecordLaws.{some-bytes}
+use Rattle.playback.specs.Playing.{Played, playRecord, PlayedRecords, noneLeft, answerThen, playRecords, packetRoom, EightNeverOccurs}
+use Rattle.playback.proofs.SoundPlays.{Sound, found-sound}
 
--- a hub's creation leaves the lent buffer as it was
-hub-kept : (hub : Hub) (packets : List ℕ) (address : ℕ) (creation : Reply Hub) → playHub hub packets address creation .packets ≡ packets
-hub-kept hub packets address (refused number) = refl
-hub-kept hub packets address (given made) = refl
+-- what follows a record is shorter
+pub rest-less : (bytes : List ℕ) → 1 ≤ length bytes → 1 + length (drop (recordLength bytes) bytes) ≤ length bytes
+rest-less bytes h = omega (arith, some-bytes bytes, length-drop (recordLength bytes) bytes)
 
--- an event leaves it as long as it was
-event-kept : (packets : List ℕ) (port : ℕ) {reply : Reply Outcome} → Sound (length packets) port reply → length (bufferAfter packets 0 reply) ≡ length packets
-event-kept packets port (refusing number n) = refl
-event-kept packets port (dropping h) = refl
-event-kept packets port (sending csi packet h c four l) = length-written packets 0 packet (omega arith)
+-- a record that was played, and the records after it
+abbrev pub playedThen : Played → PlayedRecords → PlayedRecords
+playedThen played later = answerThen (played .reply) (cond (played .ends) (noneLeft (played .hub)) later)
 
--- and so does each record
-packets-kept : (hub : Hub) (packets : List ℕ) (found : Reply TraceRecord) → length (playRecord hub packets found .packets) ≡ length packets
-unfolding playRecord
-packets-kept hub packets (refused number) = refl
-packets-kept hub packets (given (hubRecord address)) = ap length (hub-kept hub packets address (creationOf address))
-packets-kept hub packets (given (writeRecord offset values)) = refl
-packets-kept hub packets (given (readRecord offset)) = refl
-packets-kept hub packets (given (writeQuestion address)) = refl
-packets-kept hub packets (given (readQuestion address)) = refl
-packets-kept hub packets (given (startRecord port bits)) = event-kept packets port (start-sound (length packets) hub port bits)
-packets-kept hub packets (given (endRecord port)) = event-kept packets port (end-sound (length packets) hub port)
-packets-kept hub packets (given (lineRecord port width pixel)) = event-kept packets port (line-sound (length packets) hub port (replicate width pixel))
+-- no byte is left
+pub no-records : (n : ℕ) (first : Bool) (hub : Hub) (packets bytes : List ℕ) → length bytes ≡ 0 → playRecords n first hub packets bytes ≡ noneLeft hub
+unfolding playRecords
+no-records zero first hub packets bytes h = refl
+no-records (suc n) first hub packets bytes h = rw (eq-eqb (length bytes) 0 h)
 
--- so refusal 8 is no answer to the records of any bytes
-from-not-eight : (n : ℕ) (first : Bool) (hub : Hub) (packets bytes : List ℕ) → length packets ≡ packetRoom
-    → List·Memᴰ (refused 8) (answersFrom n first hub packets bytes) → ⊥
-unfolding answersFrom
-from-not-eight zero first hub packets bytes room m = List·Memᴰ·not-nil m
-from-not-eight (suc n) first hub packets bytes room m =
-    go (eqb (length bytes) 0) (done .ends) m (from-not-eight n false (done .hub) (done .packets) rest (packets-kept hub packets (recordOf first bytes) ∙ room))
+-- There are no more records than bytes: with enough of them asked for, what comes of them is the same.
+same-records : (n m : ℕ) (first : Bool) (hub : Hub) (packets bytes : List ℕ) → length bytes ≤ n → length bytes ≤ m
+    → playRecords n first hub packets bytes ≡ playRecords m first hub packets bytes
+unfolding playRecords
+same-records zero m first hub packets bytes h k = sym (no-records m first hub packets bytes (omega arith))
+same-records (suc n) zero first hub packets bytes h k = no-records (suc n) first hub packets bytes (omega arith)
+same-records (suc n) (suc m) first hub packets bytes h k =
+    go (eqb (length bytes) 0) refl (same-records n m false (done .hub) (done .packets) rest)
   where
     done : Played
     done = playRecord hub packets (recordOf first bytes)
 
     rest : List ℕ
-    rest = drop (usedBy bytes (recordOf first bytes)) bytes
+    rest = drop (recordLength bytes) bytes
 
-    next : List (Reply (List ℕ))
-    next = answersFrom n false (done .hub) (done .packets) rest
+    later : ℕ → PlayedRecords
+    later n = playRecords n false (done .hub) (done .packets) rest
 
-    go : (a b : Bool) → List·Memᴰ (refused 8) (cond a [] (done .reply ∷ cond b [] next)) → (List·Memᴰ (refused 8) next → ⊥) → ⊥
+    go : (b : Bool) → eqb (length bytes) 0 ≡ b → (length rest ≤ n → length rest ≤ m → later n ≡ later m)
+        → cond b (noneLeft hub) (playedThen done (later n)) ≡ cond b (noneLeft hub) (playedThen done (later m))
+    go true e ih = refl
+    go false e ih =
+        let ne = eqb-false (length bytes) 0 e in
+        let less = rest-less bytes (omega arith) in
+        ap (playedThen done) (ih (omega arith) (omega arith))
+
+-- a byte is left: the next record, and what comes after it
+pub next-record : (first : Bool) (hub : Hub) (packets bytes : List ℕ) → 1 ≤ length bytes
+    → let played = playRecord hub packets (recordOf first bytes) in
+    let rest = drop (recordLength bytes) bytes in
+    playRecords (length bytes) first hub packets bytes ≡ playedThen played (playRecords (length rest) false (played .hub) (played .packets) rest)
+unfolding playRecords
+next-record first hub packets bytes h =
+    let played = playRecord hub packets (recordOf first bytes) in
+    let rest = drop (recordLength bytes) bytes in
+    let less = rest-less bytes h in
+    same-records (length bytes) (suc (length bytes)) first hub packets bytes (omega arith) (omega arith)
+    ∙ rw (ne-eqb (length bytes) 0 (λ e. omega arith))
+    (ap (playedThen played) (same-records (length bytes) (length rest) false (played .hub) (played .packets) rest (omega arith) (omega arith)))
+
+-- with the room that the player lends, refusal 8 is no answer to the records of any bytes
+not-eight : {detail : Option ℕ} (n : ℕ) (first : Bool) (hub : Hub) (packets bytes : List ℕ) → length packets ≡ packetRoom
+    → List·Memᴰ (refusedWith 8 detail) (playRecords n first hub packets bytes .answers) → ⊥
+unfolding playRecords
+not-eight zero first hub packets bytes room m = List·Memᴰ·not-nil m
+not-eight {detail} (suc n) first hub packets bytes room m =
+    go (eqb (length bytes) 0) (done .ends) m (not-eight n false (done .hub) (done .packets) rest (omega (arith, sound .room)))
+  where
+    done : Played
+    done = playRecord hub packets (recordOf first bytes)
+
+    rest : List ℕ
+    rest = drop (recordLength bytes) bytes
+
+    sound : Sound packets done
+    sound = found-sound hub packets first bytes
+
+    later : PlayedRecords
+    later = playRecords n false (done .hub) (done .packets) rest
+
+    go : (a b : Bool)
+        → List·Memᴰ (refusedWith 8 detail) (cond a (noneLeft hub) (answerThen (done .reply) (cond b (noneLeft (done .hub)) later)) .answers)
+        → (List·Memᴰ (refusedWith 8 detail) (later .answers) → ⊥) → ⊥
     go true b k ih = List·Memᴰ·not-nil k
-    go false b (List·Memᴰ·head e) ih = not-eight (length packets) (played-printable hub packets (record-found first bytes)) (omega arith) e
+    go false b (List·Memᴰ·head e) ih = sound .not-eight (omega arith) detail (sym e)
     go false true (List·Memᴰ·tail k) ih = List·Memᴰ·not-nil k
     go false false (List·Memᴰ·tail k) ih = ih k
 
--- the player lends that room
 pub eight-never-occurs : EightNeverOccurs
-eight-never-occurs file m =
-    from-not-eight (length file) true (hubAt 0x08) (replicate packetRoom 0) file (length-replicate {A = ℕ} packetRoom 0) m
+eight-never-occurs file detail m =
+    not-eight (length file) true (hubAt 0x08) (replicate packetRoom 0) file (length-replicate {A = ℕ} packetRoom 0) m

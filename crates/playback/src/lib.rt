@@ -1,15 +1,14 @@
 // The player: plays the records in a window of a trace file on a hub, and puts a line for each into a buffer.
 ghost use mathlib.Core.Path.{_≡_};
-ghost use Prim.Native.Nat.{_≤_};
-ghost use lib.ListN.{length};
-ghost use Rattle.playback.specs.Windows.{newSession, stateOf, playWindow};
+ghost use Rattle.playback.specs.Windows.{newSession, stateAt, PlaysWindow};
 use hub::Hub;
 
 mod event;
 mod record;
 mod window;
 
-// The player between two records: the hub, how many records there were, how many were refused, and whether the run has ended.
+// The player between two records: the hub, how many records there were, how many were refused, and whether the run has
+// ended.
 pub struct Session {
     pub hub: Hub,
     pub records: u64,
@@ -38,8 +37,8 @@ pub fn new() -> Session
     }
 }
 
-// Plays the records of a window of the file, as far as they are whole and there is room for their lines from the place on; `last` where the file ends with the
-// window.
+// Plays the records of a window of the file, as far as they are whole and there is room for their lines from the place
+// on; `last` where the file ends with the window.
 pub fn play_window(
     session: Session,
     window: &[u8],
@@ -48,22 +47,24 @@ pub fn play_window(
     out: &mut [u8],
     at: usize,
 ) -> WindowPlayed
-    ensures { λ r. ⌜ stateOf r (now (packets .exit)) (now (out .exit)) ≡ playWindow (length (now (window .entry))) last (now (window .entry)) (record { session = session; used = 0; packets = now (packets .entry); out = now (out .entry); at = at }) ⌝ }
-    ensures { λ r. ⌜ (r .used ≤ length (now (window .entry))) × (at ≤ length (now (out .entry)) → r .next ≤ length (now (out .exit))) ⌝ }
+    ensures { λ r. ⌜ PlaysWindow last
+        (stateAt session (now (window .entry)) (now (packets .entry)) (now (out .entry)) at)
+        r (now (packets .exit)) (now (out .exit)) ⌝ }
 {
     let mut session = session;
     let mut used = 0;
     let mut next = at;
     while window::may_play(
         session,
-        window::left_of(window, used),
+        buffers::bytes_from(window, used),
         last,
         out.len(),
         next,
     ) {
-        let played = window::play_one(session, window, used, packets, out, next);
+        let left = buffers::bytes_from(window, used);
+        let played = window::play_one(session, left, packets, out, next);
         session = played.session;
-        used = played.used;
+        used += played.used;
         next = played.next;
     }
     WindowPlayed {

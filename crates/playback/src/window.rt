@@ -1,27 +1,19 @@
 // The next record of a window: whether there is one, its line, and the session after it.
 ghost use mathlib.Core.Path.{_≡_};
-ghost use Prim.Native.Nat.{_+_, _≤_};
-ghost use mathlib.Core.List.{[]};
-ghost use lib.ListN.{length, drop};
-ghost use Rattle.laws.specs.Buffers.{written};
-ghost use Rattle.answers.specs.Lines.{lineText, answerReply};
-ghost use Rattle.playback.specs.Windows.{stateOf, mayPlayNext, sessionAfter, playOne};
-ghost use Rattle.playback.specs.Contracts.{playedOf};
+ghost use mathlib.Core.List.{List};
+ghost use Prim.Native.Nat.{ℕ, _+_, _≤_, min};
+ghost use lib.ListN.{length};
+ghost use Rattle.trace.specs.Framing.{recordLength};
+ghost use Rattle.playback.specs.Windows.{stateAt, textRoom, mayPlayNext, sessionAfter};
+ghost use Rattle.playback.specs.Contracts.{playedOf, PlaysOne};
 use crate::Session;
 use crate::WindowPlayed;
 use crate::record;
 use crate::record::RecordPlayed;
-use answers::RecordAnswer;
-use lines::TextAnswer;
 use std::num::wrapping_add_u64;
 
-// What is left of the window.
-pub(crate) fn left_of(window: &[u8], used: usize) -> &[u8]
-    requires { ⌜ used ≤ length (now window) ⌝ }
-    ensures { λ r. ⌜ now r ≡ drop used (now (window .entry)) ⌝ }
-{
-    &window[used..]
-}
+// The bytes that have to be free for the line of a record: more than any line has.
+const TEXT_ROOM: usize = 128;
 
 pub(crate) fn may_play(session: Session, left: &[u8], last: bool, size: usize, at: usize) -> bool
     ensures { λ r. ⌜ r ≡ mayPlayNext session (now (left .entry)) last size at ⌝ }
@@ -29,7 +21,7 @@ pub(crate) fn may_play(session: Session, left: &[u8], last: bool, size: usize, a
     if session.ended {
         return false;
     }
-    if !lines::has_text_room(size, at) {
+    if !buffers::has_room(size, at, TEXT_ROOM) {
         return false;
     }
     if last {
@@ -38,19 +30,19 @@ pub(crate) fn may_play(session: Session, left: &[u8], last: bool, size: usize, a
     trace::holds_record(left)
 }
 
-// Puts the line of a record, and answers the next free place.
-fn put_line(number: u64, answer: RecordAnswer, out: &mut [u8], at: usize) -> usize
-    requires { ⌜ at + 64 ≤ length (now out) ⌝ }
-    ensures { λ r. ⌜ (r ≡ at + length (lineText number (answerReply answer))) × (now (out .exit) ≡ written (now (out .entry)) at (lineText number (answerReply answer))) ⌝ }
+// How many bytes the record at the start takes: of one that is cut short, what is there of it.
+fn used_by(left: &[u8]) -> usize
+    ensures { λ r. ⌜ r ≡ min (recordLength (now (left .entry))) (length (now (left .entry))) ⌝ }
 {
-    match lines::put_line(number, answer, out, at) {
-        TextAnswer::NoRoom => at,
-        TextAnswer::Next(next) => next,
+    let whole = trace::record_length(left);
+    if whole <= left.len() {
+        return whole;
     }
+    left.len()
 }
 
 fn session_after(session: Session, played: RecordPlayed) -> Session
-    ensures { λ r. ⌜ r ≡ sessionAfter session (playedOf played []) ⌝ }
+    ensures { λ r. ⌜ ((packets : List ℕ) → r ≡ sessionAfter session (playedOf played packets)) ⌝ }
 {
     let hub = played.hub;
     let answer = played.answer;
@@ -63,29 +55,29 @@ fn session_after(session: Session, played: RecordPlayed) -> Session
     }
 }
 
+// Plays the record at the start of what is left of a window.
 pub(crate) fn play_one(
     session: Session,
-    window: &[u8],
-    used: usize,
+    left: &[u8],
     packets: &mut [u8],
     out: &mut [u8],
     at: usize,
 ) -> WindowPlayed
-    requires { ⌜ used ≤ length (now window) ⌝ }
-    requires { ⌜ at + 64 ≤ length (now out) ⌝ }
-    ensures { λ r. ⌜ stateOf r (now (packets .exit)) (now (out .exit)) ≡ playOne (now (window .entry)) (record { session = session; used = used; packets = now (packets .entry); out = now (out .entry); at = at }) ⌝ }
+    requires { ⌜ at + textRoom ≤ length (now out) ⌝ }
+    ensures { λ r. ⌜ PlaysOne
+        (stateAt session (now (left .entry)) (now (packets .entry)) (now (out .entry)) at)
+        r (now (packets .exit)) (now (out .exit)) ⌝ }
 {
-    let left = left_of(window, used);
     let found = trace::record_at(left, session.records == 0);
-    let taken = record::used_by(left, found);
+    let used = used_by(left);
     let hub = session.hub;
     let played = record::play_found(hub, left, found, packets);
     let after = session_after(session, played);
     let answer = played.answer;
-    let next = put_line(after.records, answer, out, at);
+    let next = printing::put_printed_line(after.records, answer, out, at);
     WindowPlayed {
         session: after,
-        used: used + taken,
+        used,
         next,
     }
 }

@@ -1,6 +1,5 @@
 // The program `player`: plays the trace file that its argument names, and prints a line for each record and the counts.
 mod run;
-mod window;
 
 use libc::STDERR_FILENO;
 

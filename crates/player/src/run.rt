@@ -1,36 +1,27 @@
-// The run through a file: window by window it is read, played, and its lines are written.
+// The run through a file: bytes are read into the window, a turn plays them, and its text is written.
 ghost use mathlib.Core.Path.{_≡_};
-ghost use mathlib.Core.Bool.{true, cond, _&&_};
 ghost use Prim.Native.Nat.{_≤_};
-ghost use lib.Dec.{eqb};
-ghost use lib.ListN.{length, replicate};
+ghost use lib.ListN.{length, take, replicate};
+ghost use Rattle.printing.specs.PrintedLines.{printedCounts};
 ghost use Rattle.playback.specs.Playing.{packetRoom};
-ghost use Rattle.player.specs.Turns.{ReadOn, Turned};
-use crate::window;
 use libc::STDERR_FILENO;
 use libc::STDOUT_FILENO;
-use lines::TextAnswer;
 use playback::Session;
+use turns::FileRun;
 
-// Where the run stands: the session, how many bytes of the file the window holds, whether they are the file's last, and whether the run is over.
-struct Run {
-    session: Session,
-    held: usize,
-    last: bool,
-    over: bool,
+// More bytes than the last line has.
+const COUNTS_ROOM: usize = 64;
+
+// What was read: nothing, because the file cannot be read, or so many bytes.
+enum Read {
+    Failed,
+    Got(usize),
 }
 
-// The run, and it is over.
-fn stopped(run: Run) -> Run
-    ensures { λ r. ⌜ (r .session ≡ run .session) × (r .held ≡ run .held) × (r .last ≡ run .last) × (r .over ≡ true) ⌝ }
-{
-    let session = run.session;
-    Run {
-        session,
-        held: run.held,
-        last: run.last,
-        over: true,
-    }
+// Where the program stands: the run, and whether it is over.
+struct Step {
+    run: FileRun,
+    over: bool,
 }
 
 // Writes the text up to its end, or says that it cannot be written.
@@ -44,104 +35,87 @@ fn write_out(text: &[u8], end: usize) -> bool
     false
 }
 
+// Puts the last line at the start of the text, whole, and answers its end.
+fn put_counts(session: Session, text: &mut [u8]) -> usize
+    requires { ⌜ 64 ≤ length (now text) ⌝ }
+    ensures { λ r. ⌜ r ≤ length (now (text .exit)) ⌝ }
+    ensures { λ r. ⌜ take r (now (text .exit)) ≡ printedCounts (session .records) (session .refusals) ⌝ }
+{
+    printing::put_printed_counts(session.records, session.refusals, text, 0)
+}
+
 // Writes the last line.
 fn write_counts(session: Session) {
-    let mut text = [0u8; 64];
-    match lines::put_counts(session.records, session.refusals, &mut text, 0) {
-        TextAnswer::NoRoom => {}
-        TextAnswer::Next(end) => {
-            write_out(&text, end);
-        }
-    }
+    let mut text = [0u8; COUNTS_ROOM];
+    let end = put_counts(session, &mut text);
+    write_out(&text, end);
 }
 
-// Whether nothing is left to play.
-fn is_done(ended: bool, last: bool, left: usize) -> bool
-    ensures { λ r. ⌜ r ≡ cond ended true (last && eqb left 0) ⌝ }
+// Writes the text of a turn and, where nothing is left to play, the last line; answers whether the program is over.
+fn write_text(text: &[u8], end: usize, session: Session, done: bool) -> bool
+    requires { ⌜ end ≤ length (now text) ⌝ }
 {
-    if ended {
+    if !write_out(text, end) {
         return true;
     }
-    if last {
-        return left == 0;
+    if done {
+        write_counts(session);
     }
-    false
+    done
 }
 
-// Reads the next bytes of the file behind those that the window holds, where these are few.
-fn read_on(fd: i32, path: &[u8], run: Run, window: &mut [u8]) -> Run
-    requires { ⌜ run .held ≤ length (now window) ⌝ }
-    ensures { λ r. ⌜ ReadOn run (now (window .entry)) r (now (window .exit)) ⌝ }
+// Reads bytes of the file into the window, after the first `held`.
+fn read_after(fd: i32, path: &[u8], window: &mut [u8], held: usize) -> Read
+    requires { ⌜ held ≤ length (now window) ⌝ }
 {
-    let held = run.held;
-    if run.last {
-        return run;
-    }
-    if 32768 < held {
-        return run;
-    }
     let got = libc::read(fd, &mut window[held..]);
     if got < 0 {
         io::write_all(STDERR_FILENO, b"player: cannot read the trace: ");
         os::fail(path);
-        return stopped(run);
+        return Read::Failed;
     }
-    let more = io::count(got, &window[held..]);
-    let session = run.session;
-    Run {
-        session,
-        held: held + more,
-        last: got == 0,
-        over: false,
-    }
+    Read::Got(io::count(got, &window[held..]))
 }
 
-// Plays what the window holds, writes the lines, and reads on.
-fn turn(
+// Reads the bytes of the file that the next turn wants.
+fn read_on(fd: i32, path: &[u8], run: FileRun, window: &mut [u8]) -> Read {
+    if turns::wants_bytes(run.last, run.held, window.len()) {
+        return read_after(fd, path, window, run.held);
+    }
+    Read::Got(0)
+}
+
+// Reads, plays a turn, and writes its text.
+fn take_turn(
     fd: i32,
     path: &[u8],
-    run: Run,
+    run: FileRun,
     window: &mut [u8],
     packets: &mut [u8],
     out: &mut [u8],
-) -> Run
-    requires { ⌜ run .held ≤ length (now window) ⌝ }
-    ensures { λ r. ⌜ Turned run (now (window .entry)) (now (packets .entry)) (now (out .entry)) r (now (window .exit)) (now (packets .exit)) ⌝ }
-{
-    let session = run.session;
-    let held = run.held;
-    let last = run.last;
-    let played = playback::play_window(session, &window[0..held], last, packets, out, 0);
-    let after = played.session;
-    let left = window::slide(window, played.used, held);
-    let moved = Run {
-        session: after,
-        held: left,
-        last,
-        over: false,
-    };
-    if !write_out(out, played.next) {
-        return stopped(moved);
+) -> Step {
+    match read_on(fd, path, run, window) {
+        Read::Failed => Step { run, over: true },
+        Read::Got(got) => {
+            let turn = turns::turn(run, got, window, packets, out);
+            let after = turn.run;
+            let session = after.session;
+            let over = write_text(out, turn.end, session, turn.done);
+            Step { run: after, over }
+        }
     }
-    if is_done(after.ended, last, left) {
-        write_counts(after);
-        return stopped(moved);
-    }
-    read_on(fd, path, moved, window)
 }
 
-// A proved loop has to end, and nothing says that a file does: the turns are counted down, from a number that no run uses up.
+// A proved loop has to end, and nothing says that a file does: the turns are counted down, from a number that no file
+// uses up (`HoweverCut` in `turns` says how many a file takes).
 fn play_all(fd: i32, path: &[u8], window: &mut [u8], packets: &mut [u8], out: &mut [u8]) {
-    let session = playback::new();
-    let mut run = Run {
-        session,
-        held: 0,
-        last: false,
-        over: false,
-    };
+    let mut run = turns::new_run();
+    let mut over = false;
     let mut turns = u64::MAX;
-    while turns > 0 && !run.over {
-        run = turn(fd, path, run, window, packets, out);
+    while turns > 0 && !over {
+        let next = take_turn(fd, path, run, window, packets, out);
+        run = next.run;
+        over = next.over;
         turns -= 1;
     }
 }

@@ -1,52 +1,51 @@
--- What is written is read back: the reader's answers about a line, a frame start and a frame end, also with one bit of the header flipped.
+-- What is written is read back: the reader's answers about a long packet, a frame start and a frame end, also with bits of the header flipped.
 -- Assumes nothing.
-use mathlib.Core.Path.{_≡_, refl, sym, ap, _∙_}
-use mathlib.Core.Bool.{Bool, true, false, cond}
-use mathlib.Core.List.{List, [], _∷_, _++_, append-assoc}
+use mathlib.Core.Path.{_≡_, refl, sym, ap, ap₂, _∙_}
+use mathlib.Core.Bool.{true, false, cond}
+use mathlib.Core.List.{List, [], _∷_, _++_}
 use Prim.Native.Nat.{ℕ, _+_, _*_, _/_, _%_, _^_, _≤_, _<_}
 use native.Mathlib.Omega.{arith}
 use borrow.Author.Tests.{eq-eqb, le-leb, leb-true}
-use lib.Dec.{leb}
 use lib.ListN.{length, getD, take, drop, length-append}
 use lib.Seq.{take-append-seam, getD-append-seam, getD-append-add}
-use Rattle.laws.specs.Reply.{Reply, refused, given}
-use Rattle.laws.specs.Buffers.{written, ifRoom}
+use Rattle.laws.specs.Reply.{given}
+use Rattle.laws.specs.Buffers.{written}
 use Rattle.laws.proofs.Buffers.{drop-written}
 use Rattle.ecc.specs.declared.Corrected.{Corrected}
 use Rattle.ecc.specs.declared.Corrected.the-variants.{Nothing, HeaderBit}
 use Rattle.crc.specs.Checksum.{crcOf}
 use Rattle.csi2.specs.declared.short.FrameSync.{FrameSync}
 use Rattle.csi2.specs.declared.short.FrameSync.the-variants.{FrameStart, FrameEnd}
-use Rattle.packing.specs.Raw.{payloadOf, widthAllowed, allFit}
+use Rattle.packing.specs.Raw.{payloadOf}
 use Rattle.csi2.specs.Packets.{isShort, littleEndian, headerBytes, syncIdentifier, longPacket}
-use Rattle.csi2.specs.Writers.{shortReply, packetReply, lineReply, lineDropped, lineSent, sentReply, forwardReply}
-use Rattle.reader.specs.Reader.{checksumMatches, readBody, readPacket, payloadIn}
-use Rattle.reader.specs.RoundTrip.{ReadsWith, flippedIn, ReadsAs, LineReadsBack, LineUnpacks, ForwardedReadsBack, ForwardedUnpacks, ShortReadsBack}
+use Rattle.csi2.proofs.WriterLaws.{header-then, packet-then, short-given, long-given, pixel-line-given}
+use Rattle.reader.specs.Reader.{checksumMatches, readBody, readPacket, payloadCount}
+use Rattle.reader.specs.RoundTrip.{ReadsWith, ReadsAs, PixelLineReadsBack, PixelLineUnpacks, LongPacketReadsBack, LongPacketUnpacks, ShortReadsBack}
 use Rattle.packing.proofs.RawLaws.{length-payload, payload-small}
 use Rattle.unpacking.specs.Unpacking.{unpackReply}
 use Rattle.unpacking.proofs.RoundLaws.{payload-unpacks}
 use Rattle.packing.proofs.CheckLaws.{allowed-small}
 use Rattle.reader.proofs.ReaderLaws.{short-accepted, body-whole}
-use Rattle.reader.proofs.FlippedLaws.{packetOf, written-read, drop-flipped, flipped-read}
+use Rattle.reader.proofs.FlippedLaws.{packetOf, written-read, drop-flipped, flipped-read, two-flipped-read}
 
--- a packet is read back if what stands behind its header is accepted, whichever bit of the header was corrected
+-- a packet is read back if what stands after its header is accepted, whichever bit of the header was corrected
 module _ (identifier n : ℕ) (rest payload : List ℕ)
     (accepted : (corrected : Corrected) → readBody rest (packetOf identifier n corrected) ≡ given (packetOf identifier n corrected))
-    (found : cond (isShort identifier) [] (take n rest) ≡ payload) where
-  -- the answers about any bytes that have the rest behind their header and are answered as the packet
+    (found : take (cond (isShort identifier) 0 n) rest ≡ payload) where
+  -- the answers about any bytes that have the rest after their header and are answered as the packet
   reads-with : (corrected : Corrected) (read : List ℕ) → readPacket read ≡ readBody rest (packetOf identifier n corrected) → drop 4 read ≡ rest
       → ReadsWith corrected read identifier n payload
   reads-with corrected read e body =
       let answer = e ∙ accepted corrected in
-      (answer, ap (payloadIn read) answer ∙ ap (λ (l : List ℕ). cond (isShort identifier) [] (take n l)) body ∙ found)
+      (answer, ap₂ take (ap payloadCount answer) body ∙ found)
 
-  -- as it was written, and with one bit flipped
+  -- as it was written, with one bit flipped, and with two
   reads-as : identifier < 256 → n < 65536 → ReadsAs (headerBytes identifier n ++ rest) identifier n payload
-  unfolding headerBytes
   reads-as hi hn =
-      let bytes = headerBytes identifier n ++ rest in (
-        reads-with Nothing bytes (written-read identifier n rest hi hn) refl,
-        λ i h. reads-with (HeaderBit i) (flippedIn bytes i) (flipped-read identifier n rest hi hn i h) (drop-flipped identifier n rest hi hn i h),
+      rw (header-then identifier n rest) (
+        reads-with Nothing _ (written-read identifier n rest hi hn) refl,
+        λ i h. reads-with (HeaderBit i) _ (flipped-read identifier n rest hi hn i h) (drop-flipped identifier n rest hi hn i h),
+        two-flipped-read identifier n rest hi hn,
       )
 
 -- a short packet is read back, with no payload
@@ -55,7 +54,7 @@ short-reads : (identifier n : ℕ) (rest : List ℕ) → identifier < 256 → n 
 short-reads identifier n rest hi hn short =
     reads-as identifier n rest [] (λ corrected. short-accepted rest (packetOf identifier n corrected) short) (rw short) hi hn
 
--- what stands behind the header of a long packet: the payload, its checksum, and anything
+-- what stands after the header of a long packet: the payload, its checksum, and anything
 module _ (payload tail : List ℕ) where
   abbrev body : List ℕ
   body = payload ++ (littleEndian (crcOf payload) ++ tail)
@@ -81,11 +80,10 @@ module _ (payload tail : List ℕ) where
   -- a long packet is read back
   long-reads : (identifier : ℕ) → identifier < 256 → length payload < 65536 → isShort identifier ≡ false
       → ReadsAs (longPacket identifier payload ++ tail) identifier (length payload) payload
-  unfolding longPacket
   long-reads identifier hi hn long =
-      simp append-assoc
+      rw (packet-then identifier payload tail)
       (reads-as identifier (length payload) body payload
-      (λ corrected. body-whole body (packetOf identifier (length payload) corrected) long body-length ∙ rw body-matches)
+      (λ corrected. body-whole body (packetOf identifier (length payload) corrected) long body-length body-matches)
       (rw (long, body-payload)) hi hn)
 
 -- a packet that was written is read from its place
@@ -93,79 +91,44 @@ from-place : (packet bytes buffer payload : List ℕ) (place identifier n : ℕ)
     → ReadsAs (packet ++ drop (place + length packet) buffer) identifier n payload → ReadsAs (drop place (written buffer place bytes)) identifier n payload
 from-place packet bytes buffer payload place identifier n e room reads = rw (sym e, drop-written buffer place packet room) reads
 
--- what an accepted line tells of the tests that the writer makes
-line-by : (width fit short room : Bool) (packet bytes : List ℕ)
-    → cond width (cond fit (cond short (refused 7) (cond room (given packet) (refused 8))) (refused 6)) (refused 5) ≡ given bytes
-    → (width ≡ true) × (short ≡ false) × (room ≡ true) × (packet ≡ bytes) × (fit ≡ true)
-line-by true true false true packet bytes e = (refl, refl, refl, cc, refl)
-line-by true true false false packet bytes e = let z : _≡_ {A = ℕ} 0 1 = cc in absurd (omega arith)
-line-by true true true room packet bytes e = let z : _≡_ {A = ℕ} 0 1 = cc in absurd (omega arith)
-line-by true false short room packet bytes e = let z : _≡_ {A = ℕ} 0 1 = cc in absurd (omega arith)
-line-by false fit short room packet bytes e = let z : _≡_ {A = ℕ} 0 1 = cc in absurd (omega arith)
-
--- every line that the writer accepts is read back from its place
-pub line-reads-back : LineReadsBack
-unfolding lineReply packetReply ifRoom
-line-reads-back format pixels identifier place buffer bytes hi e =
+-- every long packet that is written is read back from its place
+pub long-packet-reads-back : LongPacketReadsBack
+long-packet-reads-back format pixels identifier place buffer bytes hi e =
     let payload = payloadOf format pixels in
     let packet = longPacket identifier payload in
-    let by =
-    line-by (widthAllowed format (length pixels)) (allFit format pixels) (isShort identifier) (leb (place + length packet) (length buffer)) packet bytes e in
+    let by = long-given format pixels identifier (length buffer) place e in
     let l = length-payload format pixels in
     let small = payload-small format (length pixels) (allowed-small format (length pixels) (by .0)) in
     from-place packet bytes buffer payload place identifier (length payload) (by .3) (leb-true (place + length packet) (length buffer) (by .2))
     (long-reads payload (drop (place + length packet) buffer) identifier hi (omega arith) (by .1))
 
--- and its payload, as it is read, is unpacked to its pixels
-pub line-unpacks : LineUnpacks
-unfolding lineReply packetReply ifRoom
-line-unpacks bits format pixels identifier place size buffer bytes known hi e =
-    let packet = longPacket identifier (payloadOf format pixels) in
-    let by =
-    line-by (widthAllowed format (length pixels)) (allFit format pixels) (isShort identifier) (leb (place + length packet) (length buffer)) packet bytes e in
-    ap (λ (l : List ℕ). unpackReply bits l size) (line-reads-back format pixels identifier place buffer bytes hi e .0 .1)
-    ∙ payload-unpacks bits format pixels size known (by .0) (by .4)
+-- and its payload, as it is read, is unpacked to its pixels, where they fit
+pub long-packet-unpacks : LongPacketUnpacks
+long-packet-unpacks bits format pixels identifier place size buffer bytes known hi fit e =
+    ap (λ (l : List ℕ). unpackReply bits l size) (long-packet-reads-back format pixels identifier place buffer bytes hi e .0 .1)
+    ∙ payload-unpacks bits format pixels size known (long-given format pixels identifier (length buffer) place e .0) fit
 
--- a line that is sent is one that the writer accepts
-sent-by : (width fit forwarded : Bool) (packet : Reply (List ℕ)) (bytes : List ℕ)
-    → cond width (cond fit (cond forwarded (sentReply packet) (given lineDropped)) (refused 6)) (refused 5) ≡ given (lineSent bytes)
-    → cond width (cond fit packet (refused 6)) (refused 5) ≡ given bytes
-sent-by true true true (given packet) bytes e = cc
-sent-by true true true (refused number) bytes e = let z : _≡_ {A = ℕ} 0 1 = cc in absurd (omega arith)
-sent-by true true false packet bytes e = let z : _≡_ {A = ℕ} 0 1 = cc in absurd (omega arith)
-sent-by true false forwarded packet bytes e = let z : _≡_ {A = ℕ} 0 1 = cc in absurd (omega arith)
-sent-by false fit forwarded packet bytes e = let z : _≡_ {A = ℕ} 0 1 = cc in absurd (omega arith)
+pub pixel-line-reads-back : PixelLineReadsBack
+pixel-line-reads-back format pixels identifier place buffer bytes hi e =
+    long-packet-reads-back format pixels identifier place buffer bytes hi (pixel-line-given format pixels identifier (length buffer) place e .1)
 
-pub forwarded-reads-back : ForwardedReadsBack
-unfolding lineReply forwardReply
-forwarded-reads-back format pixels forwarded identifier place buffer bytes hi e =
-    line-reads-back format pixels identifier place buffer bytes hi
-    (sent-by (widthAllowed format (length pixels)) (allFit format pixels) forwarded (packetReply format pixels identifier (length buffer) place) bytes e)
+pub pixel-line-unpacks : PixelLineUnpacks
+pixel-line-unpacks bits format pixels identifier place size buffer bytes known hi e =
+    let by = pixel-line-given format pixels identifier (length buffer) place e in
+    long-packet-unpacks bits format pixels identifier place size buffer bytes known hi (by .0) (by .1)
 
-pub forwarded-unpacks : ForwardedUnpacks
-unfolding lineReply forwardReply
-forwarded-unpacks bits format pixels forwarded identifier place size buffer bytes known hi e =
-    line-unpacks bits format pixels identifier place size buffer bytes known hi
-    (sent-by (widthAllowed format (length pixels)) (allFit format pixels) forwarded (packetReply format pixels identifier (length buffer) place) bytes e)
-
--- an accepted frame start or end had room, and is its header
-short-by : (room : Bool) (packet bytes : List ℕ) → cond room (given packet) (refused 8) ≡ given bytes → (room ≡ true) × (packet ≡ bytes)
-short-by true packet bytes e = (refl, cc)
-short-by false packet bytes e = let z : _≡_ {A = ℕ} 0 1 = cc in absurd (omega arith)
-
--- its identifier is a byte with a short type
+-- the identifier of a frame start or end is a byte with a short type
 sync-short : (identifier : ℕ) (sync : FrameSync) → identifier < 256
     → (syncIdentifier identifier sync < 256) × (isShort (syncIdentifier identifier sync) ≡ true)
 sync-short identifier FrameStart h = (omega arith, le-leb ((identifier / 64 * 64 + 0) % 64) 15 (omega arith))
 sync-short identifier FrameEnd h = (omega arith, le-leb ((identifier / 64 * 64 + 1) % 64) 15 (omega arith))
 
--- every frame start and end that the writer accepts is read back from its place
+-- every frame start and end that is written is read back from its place
 pub short-reads-back : ShortReadsBack
-unfolding shortReply ifRoom headerBytes
 short-reads-back identifier sync number place buffer bytes hi hn e =
     let own = syncIdentifier identifier sync in
-    let header = headerBytes own number in
-    let by = short-by (leb (place + 4) (length buffer)) header bytes e in
+    let by = short-given identifier sync number (length buffer) place e in
     let kind = sync-short identifier sync hi in
-    from-place header bytes buffer [] place own number (by .1) (leb-true (place + 4) (length buffer) (by .0))
-    (short-reads own number (drop (place + 4) buffer) (kind .0) hn (kind .1))
+    let header = headerBytes own number in
+    from-place header bytes buffer [] place own number (by .1) (leb-true (place + length header) (length buffer) (by .0))
+    (short-reads own number (drop (place + length header) buffer) (kind .0) hn (kind .1))

@@ -1,7 +1,10 @@
 // The packet at the start of some bytes: what its header says, and its payload as a part of those bytes.
 ghost use mathlib.Core.Path.{_≡_};
-ghost use Prim.Native.Nat.{_+_, _*_, _^_};
-ghost use Rattle.reader.specs.Reader.{headerPacket, readBody, readPacket, payloadRead, packetReadReply};
+ghost use Prim.Native.Nat.{_+_, _*_, _^_, _≤_};
+ghost use lib.ListN.{length};
+ghost use Rattle.reader.specs.Reader.{headerPacket, checksumMatches, readBody, readPacket};
+ghost use Rattle.reader.specs.Reader.{payloadCount, payloadRead, packetReadReply};
+use csi2::short;
 use ecc::Corrected;
 use ecc::Correction;
 
@@ -24,20 +27,22 @@ fn four_bytes(a: u8, b: u8, c: u8, d: u8) -> u32
     (a as u32) + 0x100 * (b as u32) + 0x10000 * (c as u32) + 0x1000000 * (d as u32)
 }
 
-// Two bytes as one number.
-fn two_bytes(a: u8, b: u8) -> u16
-    ensures { λ r. ⌜ r ≡ a + 2 ^ 8 * b ⌝ }
+// Whether the two bytes after the payload are its checksum.
+fn checksum_matches(body: &[u8], count: usize) -> bool
+    requires { ⌜ count + 2 ≤ length (now body) ⌝ }
+    ensures { λ r. ⌜ r ≡ checksumMatches (now (body .entry)) count ⌝ }
 {
-    (a as u16) + 0x100 * (b as u16)
+    buffers::two_bytes(body[count], body[count + 1]) == crc::checksum(&body[..count])
 }
 
-// Reads what stands behind a header that was read as `header`.
+// Reads what stands after a header that was read as `header`.
 fn read_body(body: &[u8], header: u32, corrected: Corrected) -> PacketRead
-    ensures { λ r. ⌜ packetReadReply r ≡ readBody (now (body .entry)) (headerPacket (record { header = header; corrected = corrected })) ⌝ }
+    ensures { λ r. ⌜ packetReadReply r
+        ≡ readBody (now (body .entry)) (headerPacket (record { header = header; corrected = corrected })) ⌝ }
 {
     let data_identifier = (header % 0x100) as u8;
     let word_count = (header / 0x100 % 0x10000) as u16;
-    if data_identifier % 64 <= 0x0F {
+    if short::is_short(data_identifier) {
         return PacketRead::Accepted {
             data_identifier,
             word_count,
@@ -48,7 +53,7 @@ fn read_body(body: &[u8], header: u32, corrected: Corrected) -> PacketRead
     if body.len() < end + 2 {
         return PacketRead::Truncated;
     }
-    if two_bytes(body[end], body[end + 1]) != crc::checksum(&body[0..end]) {
+    if !checksum_matches(body, end) {
         return PacketRead::ChecksumWrong;
     }
     PacketRead::Accepted {
@@ -68,7 +73,30 @@ pub fn read_packet(bytes: &[u8]) -> PacketRead
     let header = four_bytes(bytes[0], bytes[1], bytes[2], bytes[3]);
     match ecc::correct_header(header) {
         Correction::Uncorrectable => PacketRead::HeaderUncorrectable,
-        Correction::Header { header, corrected } => read_body(&bytes[4..], header, corrected),
+        Correction::Header { header, corrected } => {
+            read_body(buffers::bytes_from(bytes, 4), header, corrected)
+        }
+    }
+}
+
+// How many bytes the payload has, by the answer of the reader: none on refusal.
+fn payload_count(read: PacketRead) -> usize
+    ensures { λ r. ⌜ r ≡ payloadCount (packetReadReply read) ⌝ }
+{
+    match read {
+        PacketRead::Truncated => 0,
+        PacketRead::HeaderUncorrectable => 0,
+        PacketRead::ChecksumWrong => 0,
+        PacketRead::Accepted {
+            data_identifier,
+            word_count,
+            corrected: _,
+        } => {
+            if short::is_short(data_identifier) {
+                return 0;
+            }
+            word_count as usize
+        }
     }
 }
 
@@ -76,20 +104,7 @@ pub fn read_packet(bytes: &[u8]) -> PacketRead
 pub fn payload(bytes: &[u8]) -> &[u8]
     ensures { λ r. ⌜ now r ≡ payloadRead (now (bytes .entry)) ⌝ }
 {
-    match read_packet(bytes) {
-        PacketRead::Truncated => &bytes[..0],
-        PacketRead::HeaderUncorrectable => &bytes[..0],
-        PacketRead::ChecksumWrong => &bytes[..0],
-        PacketRead::Accepted {
-            data_identifier,
-            word_count,
-            corrected: _,
-        } => {
-            if data_identifier % 64 <= 0x0F {
-                return &bytes[..0];
-            }
-            let end = 4 + (word_count as usize);
-            &bytes[4..end]
-        }
-    }
+    let count = payload_count(read_packet(bytes));
+    let body = buffers::bytes_from(bytes, 4);
+    &body[..count]
 }

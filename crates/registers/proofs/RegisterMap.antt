@@ -1,15 +1,18 @@
 -- Laws of the register map, each by one test that is computed over the whole table.
 -- Assumes nothing.
-use mathlib.Core.Path.{_≡_, refl, _∙_}
+use mathlib.Core.Path.{_≡_, refl}
 use mathlib.Core.Bool.{Bool, true, false, cond, _&&_}
+use mathlib.Core.List.{List, [], _∷_}
 use Prim.Native.Nat.{ℕ, _+_, _*_, _-_, _/_, _%_, _≤_, _<_}
-use native.Mathlib.Nat.{add-zero}
-use borrow.Author.Tests.{le-leb, lt-leb}
+use borrow.Author.Tests.{lt-leb, leb-true, ltb-true, ltb-false}
 use native.Mathlib.Omega.{arith}
 use lib.Dec.{T, eqb, ltb, leb, eqb→eq, ltb→lt}
 use lib.Bits.{bitAnd}
+use Rattle.laws.proofs.Absurd.{zero-not-one}
+use Rattle.laws.proofs.Bools.{both, never}
 use Rattle.laws.proofs.Tables.{allBelow, below-at}
-use Rattle.registers.specs.RegisterMap.{rows, rowIn, resetOf, maskOf, perPort, perPortFlag, ResetsInsideMasks, RAW10-ID, RAW12-ID}
+use Rattle.registers.specs.RegisterMap.{Row, rows, rowIn, resetOf, maskOf, perPort, perPortFlag}
+use Rattle.registers.specs.RegisterMap.{ResetsInsideMasks, RAW10-ID, RAW12-ID}
 
 -- the flag of the source's table is 1 exactly where the offset is per-port
 pub flag-perPort : (offset : ℕ) → eqb (perPortFlag offset) 1 ≡ perPort offset
@@ -49,22 +52,34 @@ unfolding allBelow atEach resetByte resetOf rowIn rows
 reset-byte port offset hp ho = ltb→lt _ 256 (at-every resetByte tt port offset hp ho)
 
 -- of RAW10_ID and RAW12_ID the port's number stands in bits 7 and 6, and no other reset value depends on the port
-resetByPort : ℕ → ℕ → Bool
-resetByPort port offset = eqb (resetOf port offset) (resetOf 0 offset + cond (leb RAW10-ID offset && leb offset RAW12-ID) (64 * port) 0)
+abbrev pub portBits : ℕ → ℕ → ℕ
+portBits port offset = cond (leb RAW10-ID offset && leb offset RAW12-ID) (64 * port) 0
 
-reset-by-port : (port offset : ℕ) → port < 4 → offset < 256
-    → resetOf port offset ≡ resetOf 0 offset + cond (leb RAW10-ID offset && leb offset RAW12-ID) (64 * port) 0
+resetByPort : ℕ → ℕ → Bool
+resetByPort port offset = eqb (resetOf port offset) (resetOf 0 offset + portBits port offset)
+
+pub reset-by-port : (port offset : ℕ) → port < 4 → offset < 256
+    → resetOf port offset ≡ resetOf 0 offset + portBits port offset
 unfolding allBelow atEach resetByPort resetOf rowIn rows
 reset-by-port port offset hp ho = eqb→eq _ _ (at-every resetByPort tt port offset hp ho)
 
-module _ (port offset : ℕ) (hp : port < 4) (ho : offset < 256) where
-  pub reset-id : RAW10-ID ≤ offset → offset ≤ RAW12-ID → resetOf port offset ≡ resetOf 0 offset + 64 * port
-  reset-id l h = reset-by-port port offset hp ho ∙ rw (le-leb RAW10-ID offset l, le-leb offset RAW12-ID h)
+-- every offset of the table is a byte, so a per-port offset is
+lastsSmall : List Row → Bool
+lastsSmall [] = true
+lastsSmall (r ∷ rs) = leb (r .last) 255 && lastsSmall rs
 
-  pub reset-below : offset < RAW10-ID → resetOf port offset ≡ resetOf 0 offset
-  reset-below h = reset-by-port port offset hp ho ∙ rw (lt-leb RAW10-ID offset h) (add-zero _)
+past-rows : (rs : List Row) (offset : ℕ) → lastsSmall rs ≡ true → 256 ≤ offset → rowIn rs offset .perPort ≡ false
+unfolding lastsSmall rowIn
+past-rows [] offset t h = refl
+past-rows (r ∷ rs) offset t h =
+    let small = both (leb (r .last) 255) (lastsSmall rs) t in
+    let past : r .last < offset = omega (arith, leb-true (r .last) 255 (small .0)) in
+    rw (lt-leb offset (r .last) past, never (leb (r .first) offset)) (past-rows rs offset (small .1) h)
 
-  pub reset-above : RAW12-ID < offset → resetOf port offset ≡ resetOf 0 offset
-  reset-above h =
-      let l : RAW10-ID ≤ offset = omega arith in
-      reset-by-port port offset hp ho ∙ rw (le-leb RAW10-ID offset l, lt-leb offset RAW12-ID h) (add-zero _)
+pub per-port-small : (offset : ℕ) → perPort offset ≡ true → offset < 256
+unfolding perPort rows lastsSmall
+per-port-small offset e = go (ltb offset 256) refl
+  where
+    go : (b : Bool) → ltb offset 256 ≡ b → offset < 256
+    go true h = ltb-true offset 256 h
+    go false h = let z = past-rows rows offset refl (ltb-false offset 256 h) in zero-not-one (cc)

@@ -1,3 +1,4 @@
 pub mod RegisterMap
 pub mod RegisterFiles
+pub mod Bursts
 pub mod SclTimes

@@ -1,13 +1,16 @@
--- The register file: reset, a write, a burst and a read (document 01, "The register file").
+-- The register file: reset, a write and a read (document 01, "The register file"). A burst: `Bursts`.
 -- Assumes nothing.
 use mathlib.Core.Bool.{Bool, cond}
-use mathlib.Core.List.{List, [], _∷_}
+use mathlib.Core.List.{List}
 use Prim.Native.Nat.{ℕ, zero, suc, _+_, _*_, _/_, _%_}
+use lib.Dec.{eqb}
 use lib.ListN.{getD, set}
 use Rattle.laws.specs.Bits.{bit}
 use Rattle.laws.specs.MaskedWrites.{masked}
 use Rattle.laws.specs.Tables.{tabulate}
 use Rattle.registers.specs.declared.RegisterFile.{RegisterFile}
+use Rattle.registers.specs.declared.PageAccess.{PageAccess}
+use Rattle.registers.specs.declared.PageAccess.the-variants.{Selection, Port}
 use Rattle.registers.specs.RegisterMap.{resetOf, maskOf, perPort, FPD3-PORT-SEL}
 
 -- the shared register at an offset
@@ -26,15 +29,23 @@ pageResetAt index = resetOf (index / 256) (index % 256)
 unfoldable pub resetFile : RegisterFile
 resetFile = record { shared = tabulate (resetOf 0) 256; pages = tabulate pageResetAt 1024 }
 
--- "In 0x4C, bits 3 to 0 tick the ports to be written, bits 5 and 4 name the port to be read." (RX_WRITE_PORT_3 to 0, RX_READ_PORT)
+-- "In 0x4C, bits 3 to 0 tick the ports to be written, bits 5 and 4 name the port to be read." (RX_WRITE_PORT_3 to 0,
+-- RX_READ_PORT)
 abbrev pub selection : RegisterFile → ℕ
 selection file = sharedAt file FPD3-PORT-SEL
 
-abbrev pub writeEnabled : RegisterFile → ℕ → Bool
-writeEnabled file port = bit port (selection file)
-
 abbrev pub readPort : RegisterFile → ℕ
 readPort file = selection file / 16 % 4
+
+-- the ports that a write to a per-port offset goes to: those that the selection ticks, or the one given port
+abbrev pub writesPort : PageAccess → ℕ → ℕ → Bool
+writesPort Selection selected port = bit port selected
+writesPort (Port own) selected port = eqb own port
+
+-- the port whose registers are read: the one that the selection names, or the given one
+abbrev pub portRead : PageAccess → RegisterFile → ℕ
+portRead Selection file = readPort file
+portRead (Port own) file = own
 
 -- "Writing a shared offset takes the masked bits from the value and keeps the rest."
 unfoldable pub writeShared : RegisterFile → ℕ → ℕ → RegisterFile
@@ -53,24 +64,18 @@ writePage file port offset value =
     }
 
 -- "Writing a per-port offset does so in each ticked port; with none ticked nothing changes." The ports below n, rising.
-unfoldable pub writePorts : ℕ → RegisterFile → ℕ → ℕ → RegisterFile
-writePorts zero file offset value = file
-writePorts (suc port) file offset value =
-    let before = writePorts port file offset value in
-    cond (writeEnabled file port) (writePage before port offset value) before
+unfoldable pub writePorts : ℕ → PageAccess → RegisterFile → ℕ → ℕ → RegisterFile
+writePorts zero access file offset value = file
+writePorts (suc port) access file offset value =
+    let before = writePorts port access file offset value in
+    cond (writesPort access (selection file) port) (writePage before port offset value) before
 
-unfoldable pub writeRegister : RegisterFile → ℕ → ℕ → RegisterFile
-writeRegister file offset value = cond (perPort offset) (writePorts 4 file offset value) (writeShared file offset value)
+unfoldable pub writeRegister : PageAccess → RegisterFile → ℕ → ℕ → RegisterFile
+writeRegister access file offset value =
+    cond (perPort offset) (writePorts 4 access file offset value) (writeShared file offset value)
 
--- "after 0xFF comes 0x00"
-abbrev pub nextOffset : ℕ → ℕ
-nextOffset offset = (offset + 1) % 256
-
--- "A burst writes successive offsets, each byte under the selection then in force [...] An empty burst changes nothing."
-unfoldable pub writeBurst : RegisterFile → ℕ → List ℕ → RegisterFile
-writeBurst file offset [] = file
-writeBurst file offset (value ∷ values) = writeBurst (writeRegister file offset value) (nextOffset offset) values
-
--- "Reading a per-port offset shows the read port's register. Reading changes nothing."
-unfoldable pub readRegister : RegisterFile → ℕ → ℕ
-readRegister file offset = cond (perPort offset) (pageAt (file .pages) (readPort file) offset) (sharedAt file offset)
+-- "Reading a per-port offset shows the read port's register. Reading changes nothing." (Of a port above 3 there is no
+-- register: 0.)
+unfoldable pub readRegister : PageAccess → RegisterFile → ℕ → ℕ
+readRegister access file offset =
+    cond (perPort offset) (pageAt (file .pages) (portRead access file) offset) (sharedAt file offset)

@@ -1,4 +1,5 @@
--- The register map: document 01, "The register file", the table of offsets row by row, with the names of the data sheet (004, chapter 5.6).
+-- The register map: document 01, "The register file", the table of offsets row by row, with the names of the data sheet
+-- (004, chapter 5.6).
 -- Assumes nothing.
 use mathlib.Core.Path.{_≡_}
 use mathlib.Core.Bool.{Bool, true, false, cond, _&&_}
@@ -7,7 +8,8 @@ use Prim.Native.Nat.{ℕ, _+_, _-_, _*_, _<_}
 use lib.Bits.{bitAnd}
 use lib.Dec.{leb}
 
--- A row: its offsets, first to last; the reset value, which may depend on the port; the mask of writable bits; and whether the row is marked P.
+-- A row: its offsets, first to last; the reset value, which may depend on the port; the mask of writable bits; and
+-- whether the row is marked P.
 pub record Row : Type 0 where
   pub first : ℕ
   pub last : ℕ
@@ -16,7 +18,8 @@ pub record Row : Type 0 where
   pub perPort : Bool
 
 abbrev shared : ℕ → ℕ → ℕ → ℕ → Row
-shared first last reset mask = record { first = first; last = last; reset = λ port. reset; mask = mask; perPort = false }
+shared first last reset mask =
+    record { first = first; last = last; reset = λ port. reset; mask = mask; perPort = false }
 
 abbrev paged : ℕ → ℕ → (ℕ → ℕ) → ℕ → Row
 paged first last reset mask = record { first = first; last = last; reset = reset; mask = mask; perPort = true }
@@ -83,8 +86,9 @@ perPort offset = rowIn rows offset .perPort
 unfoldable pub perPortFlag : ℕ → ℕ
 perPortFlag offset = cond (perPort offset) 1 0
 
--- "that no reset has a set bit outside its mask is proved once over it (the port's own two bits in 0x70 and 0x71 included)". The constant arrays of the
--- source are this table, by the contracts of `map::reset_values::reset_values` and `map::write_masks::write_masks`.
+-- "that no reset has a set bit outside its mask is proved once over it (the port's own two bits in 0x70 and 0x71
+-- included)". The constant arrays of the source are this table, by the contracts of `map::reset_values::reset_values`
+-- and `map::write_masks::write_masks`.
 abbrev pub ResetsInsideMasks : Type 0
 ResetsInsideMasks = (port offset : ℕ) → port < 4 → offset < 256 → bitAnd (resetOf port offset) (255 - maskOf offset) ≡ 0
 

@@ -1,4 +1,5 @@
-// The register map: the offsets that the code mentions, by their names in the data sheet, and each offset's reset value, writable bits and paging.
+// The register map: the offsets that the code mentions, by their names in the data sheet, and each offset's reset
+// value, writable bits and paging.
 ghost use mathlib.Core.Path.{_≡_};
 ghost use Rattle.registers.specs.RegisterMap.{maskOf, perPort};
 

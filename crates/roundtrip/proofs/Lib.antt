@@ -1,3 +1,3 @@
 pub mod TextLaws
-pub mod CallLaws
+pub mod RunLaws
 pub mod SameEndLaws

@@ -8,18 +8,19 @@ use lib.ListN.{length}
 use Rattle.laws.specs.Reply.{given}
 use Rattle.laws.specs.Elements.{AreBytes}
 use Rattle.trace.specs.Records.{hubRecord, recordOf}
-use Rattle.script.specs.Reading.{taken, scriptTrace}
+use Rattle.script.specs.Reading.{scriptTrace}
 use Rattle.listing.specs.Listing.{traceText}
 use Rattle.playback.specs.Playing.{endHub}
 
--- The text is read again with an address, into any buffer that has room for its trace, and what it makes plays to the same end.
+-- The text is read again with an address, into any buffer that has room for its trace, and what it makes plays to the
+-- same end.
 pub record PlaysAlike (address : ℕ) (trace text : List ℕ) : Type 0 where
   pub again : List ℕ
-  pub read : (room : ℕ) → length again ≤ room → scriptTrace address text room ≡ taken again
+  pub read : (room : ℕ) → length again ≤ room → scriptTrace address text room ≡ given again
   pub end : endHub again ≡ endHub trace
 
 -- L1: "Text made from a trace and read again with its address plays to the same end state."
 abbrev pub SameEndState : Type 0
 SameEndState =
-    (trace text : List ℕ) (address size : ℕ) → AreBytes trace → recordOf true trace ≡ given (hubRecord address) → traceText trace size ≡ given text
-    → PlaysAlike address trace text
+    (trace text : List ℕ) (address size : ℕ) → AreBytes trace → recordOf true trace ≡ given (hubRecord address)
+    → traceText trace size ≡ given text → PlaysAlike address trace text

@@ -1,5 +1,4 @@
 pub mod PartLaws
 pub mod GrammarLaws
-pub mod TextReads
-pub mod RecordPuts
-pub mod TraceReplies
+pub mod TextLaws
+pub mod TraceLaws

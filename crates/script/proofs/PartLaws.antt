@@ -7,7 +7,7 @@ use Prim.Native.Nat.{ℕ, suc}
 use borrow.Author.Tests.{eqb-true, not-true}
 use lib.Dec.{eqb}
 use Rattle.script.specs.Grammar.{noLineFeed}
-use Rattle.script.specs.Reading.{withByte, partsOf, lineReply, restReply, lineThen, isLast, callsFrom}
+use Rattle.script.specs.Reading.{withByte, partsOf, scriptLineReply, restReply, scriptLineThen, isLast, callsFrom}
 
 -- A text and its parts.
 pub data Parts : List ℕ → List (List ℕ) → Type 0 where
@@ -58,12 +58,12 @@ parts-last line h = rw append-nil at (line-first line [] [] [] h refl)
 
 -- the calls from a part on that another one follows
 pub calls-more : (number : ℕ) (line : List ℕ) (parts : List (List ℕ)) → isLast parts ≡ false
-    → callsFrom number (line ∷ parts) ≡ lineThen number (lineReply line) (callsFrom (suc number) parts)
+    → callsFrom number (line ∷ parts) ≡ scriptLineThen number (scriptLineReply line) (callsFrom (suc number) parts)
 unfolding callsFrom
 calls-more number line parts e = rw e
 
 pub calls-next : (number : ℕ) (line rest : List ℕ)
-    → callsFrom number (line ∷ partsOf rest) ≡ lineThen number (lineReply line) (callsFrom (suc number) (partsOf rest))
+    → callsFrom number (line ∷ partsOf rest) ≡ scriptLineThen number (scriptLineReply line) (callsFrom (suc number) (partsOf rest))
 calls-next number line rest = calls-more number line (partsOf rest) (parts-some rest)
 
 -- from the last part on

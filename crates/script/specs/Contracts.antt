@@ -3,60 +3,55 @@
 use mathlib.Core.Path.{_≡_}
 use mathlib.Core.Bool.{true}
 use mathlib.Core.List.{List, [], _∷_}
-use mathlib.Core.Option.{none, some}
-use Prim.Native.Nat.{ℕ, suc, _+_, _*_, _≤_, _<_}
+use Prim.Native.Nat.{ℕ, suc, _+_, _≤_, _<_}
 use lib.ListN.{length, getD, take, drop}
-use Rattle.calls.specs.declared.LineKind.{LineKind}
-use Rattle.calls.specs.declared.LineKind.the-variants.{OtherShape, Blank, Call as CallFound}
-use Rattle.script.specs.declared.text.NextLine.{NextLine}
+use Rattle.calls.specs.declared.ScriptLine.{ScriptLine}
+use Rattle.calls.specs.declared.ScriptLine.the-variants.{OtherShape, Blank, Call as CallFound}
+use Rattle.script.specs.declared.text.NextScriptLine.{NextScriptLine}
 use Rattle.script.specs.declared.text.TextRead.{TextRead}
-use Rattle.laws.specs.Buffers.{written}
-use Rattle.calls.specs.Calls.{Call}
+use Rattle.laws.specs.Reply.{Reply, refusedAt, given}
+use Rattle.buffers.specs.Putting.{Puts}
+use Rattle.registers.specs.Bursts.{RegisterWrite}
 use Rattle.script.specs.Traces.{writeRecords, traceOf}
 use Rattle.script.specs.Grammar.{noLineFeed}
-use Rattle.script.specs.Reading.{ScriptReply, refusal, refusalAt, taken, joinedTo, partsOf, callsFrom, scriptCalls}
+use Rattle.script.specs.Reading.{joinedTo, partsOf, callsFrom, scriptCalls}
 
 -- the calls of a line, none where it has another shape
-abbrev pub callsIn : LineKind → List Call
+abbrev pub callsIn : ScriptLine → List RegisterWrite
 callsIn OtherShape = []
 callsIn Blank = []
 callsIn (CallFound offset value) = record { offset = offset; value = value } ∷ []
 
 -- so many bytes stand before the first line feed of a text, or in all
-pub record FirstLine (text : List ℕ) (count : ℕ) : Type 0 where
+pub record FirstScriptLine (text : List ℕ) (count : ℕ) : Type 0 where
   pub within : count ≤ length text
   pub before : noLineFeed (take count text) ≡ true
   pub ended : count < length text → getD text count 0 ≡ 10
 
--- what the next line of a text comes to, whatever its number: a refusal, or its calls and what follows
-abbrev pub NextLineOf : List ℕ → NextLine → Type 0
-NextLineOf text NextLine.TooLong = (number : ℕ) → callsFrom number (partsOf text) ≡ refusalAt 15 number
-NextLineOf text NextLine.OtherShape = (number : ℕ) → callsFrom number (partsOf text) ≡ refusalAt 14 number
-NextLineOf text (NextLine.Taken count read) =
-    (count < length text)
-    × ((number : ℕ) → callsFrom number (partsOf text) ≡ joinedTo (callsIn read) (callsFrom (suc number) (partsOf (drop (count + 1) text))))
+-- a line of so many bytes was taken: its calls are the text's first, whatever its number
+pub record TakenScriptLine (text : List ℕ) (count : ℕ) (read : ScriptLine) : Type 0 where
+  pub within : count < length text
+  pub calls : (number : ℕ) → callsFrom number (partsOf text)
+      ≡ joinedTo (callsIn read) (callsFrom (suc number) (partsOf (drop (count + 1) text)))
 
--- the number of calls behind some that were counted
-abbrev pub countFrom : ℕ → ScriptReply (List Call) → ScriptReply ℕ
-countFrom n (refusal number) = refusal number
-countFrom n (refusalAt number line) = refusalAt number line
-countFrom n (taken calls) = taken (n + length calls)
+-- what the next line of a text comes to: a refusal, or its calls and what follows
+abbrev pub NextScriptLineOf : List ℕ → NextScriptLine → Type 0
+NextScriptLineOf text NextScriptLine.TooLong = (number : ℕ) → callsFrom number (partsOf text) ≡ refusedAt 15 number
+NextScriptLineOf text NextScriptLine.OtherShape = (number : ℕ) → callsFrom number (partsOf text) ≡ refusedAt 14 number
+NextScriptLineOf text (NextScriptLine.Taken count read) = TakenScriptLine text count read
 
-abbrev pub linesReply : TextRead → ScriptReply ℕ
-linesReply (TextRead.TooLong line) = refusalAt 15 line
-linesReply (TextRead.OtherShape line) = refusalAt 14 line
-linesReply (TextRead.Calls count) = taken count
+-- the paper's number and value for each case of the count
+abbrev pub callCountReply : TextRead → Reply ℕ
+callCountReply (TextRead.TooLong line) = refusedAt 15 line
+callCountReply (TextRead.OtherShape line) = refusedAt 14 line
+callCountReply (TextRead.Calls count) = given count
 
--- a text whose lines are all taken, and room for its trace
-pub record HasCalls (text : List ℕ) (size : ℕ) : Type 0 where
-  pub calls : List Call
-  pub good : scriptCalls text ≡ taken calls
-  pub room : 5 + 6 * length calls ≤ size
+-- the records of the calls of a text that is taken were put
+abbrev pub PutsCalls : List ℕ → List ℕ → ℕ → List ℕ → ℕ → Type 0
+PutsCalls text before at after next =
+    (calls : List RegisterWrite) → scriptCalls text ≡ given calls → Puts before at (writeRecords calls) after next
 
--- its records stand behind the hub record
-abbrev pub PutsCalls : List ℕ → List ℕ → List ℕ → Type 0
-PutsCalls text before after = (calls : List Call) → scriptCalls text ≡ taken calls → after ≡ written before 5 (writeRecords calls)
-
--- its trace stands at the start
-abbrev pub PutsTrace : ℕ → List ℕ → List ℕ → List ℕ → Type 0
-PutsTrace address text before after = (calls : List Call) → scriptCalls text ≡ taken calls → after ≡ written before 0 (traceOf address calls)
+-- the trace of a text that is taken was put at the start
+abbrev pub PutsTrace : ℕ → List ℕ → List ℕ → List ℕ → ℕ → Type 0
+PutsTrace address text before after next =
+    (calls : List RegisterWrite) → scriptCalls text ≡ given calls → Puts before 0 (traceOf address calls) after next

@@ -1,16 +1,20 @@
-// The lines of a text, one behind the other.
+// The lines of a script, one after the other.
 ghost use mathlib.Core.Path.{_≡_};
 ghost use Prim.Native.Nat.{_≤_, _<_};
 ghost use lib.ListN.{length, drop};
+ghost use Rattle.laws.specs.Reply.{onReply};
 ghost use Rattle.script.specs.Reading.{scriptCalls};
-ghost use Rattle.script.specs.Contracts.{callsIn, FirstLine, NextLineOf, linesReply, countFrom};
-use calls::LineKind;
+ghost use Rattle.script.specs.Contracts.{callsIn, FirstScriptLine, NextScriptLineOf, callCountReply};
+use calls::ScriptLine;
+
+// The most bytes of a line, without its line feed.
+const LONGEST_LINE: usize = 200;
 
 // The next line of a text: over 200 bytes, of another shape, or taken, with its length.
-pub(crate) enum NextLine {
+pub(crate) enum NextScriptLine {
     TooLong,
     OtherShape,
-    Taken { length: usize, read: LineKind },
+    Taken { length: usize, read: ScriptLine },
 }
 
 // The lines of a text: how many calls stand in them, or the number of the first line that is refused.
@@ -22,7 +26,7 @@ pub(crate) enum TextRead {
 
 // How many bytes stand before the first line feed, or in all.
 fn line_length(text: &[u8]) -> usize
-    ensures { λ r. ⌜ FirstLine (now (text .entry)) r ⌝ }
+    ensures { λ r. ⌜ FirstScriptLine (now (text .entry)) r ⌝ }
 {
     let mut place = 0;
     while place < text.len() {
@@ -34,45 +38,35 @@ fn line_length(text: &[u8]) -> usize
     place
 }
 
-// The first line of a text that has one.
-fn first_line(text: &[u8]) -> NextLine
-    requires { ⌜ 0 < length (now text) ⌝ }
-    ensures { λ r. ⌜ NextLineOf (now (text .entry)) r ⌝ }
-{
-    let length = line_length(text);
-    if 200 < length {
-        return NextLine::TooLong;
-    }
-    if text.len() <= length {
-        return NextLine::OtherShape;
-    }
-    let read = calls::read_line(&text[..length]);
-    match read {
-        LineKind::OtherShape => NextLine::OtherShape,
-        LineKind::Blank => NextLine::Taken { length, read },
-        LineKind::Call {
-            offset: _,
-            value: _,
-        } => NextLine::Taken { length, read },
-    }
-}
-
 // The next line of a text, from a place on.
-pub(crate) fn next_line(text: &[u8], at: usize) -> NextLine
+pub(crate) fn next_script_line(text: &[u8], at: usize) -> NextScriptLine
     requires { ⌜ at < length (now text) ⌝ }
-    ensures { λ r. ⌜ NextLineOf (drop at (now (text .entry))) r ⌝ }
+    ensures { λ r. ⌜ NextScriptLineOf (drop at (now (text .entry))) r ⌝ }
 {
-    first_line(&text[at..])
+    let left = buffers::bytes_from(text, at);
+    let length = line_length(left);
+    if LONGEST_LINE < length {
+        return NextScriptLine::TooLong;
+    }
+    if left.len() <= length {
+        return NextScriptLine::OtherShape;
+    }
+    let read = calls::read_script_line(&left[..length]);
+    if let ScriptLine::OtherShape = read {
+        NextScriptLine::OtherShape
+    } else {
+        NextScriptLine::Taken { length, read }
+    }
 }
 
 // How many calls a line has.
-fn calls_in(read: LineKind) -> usize
+fn calls_in(read: ScriptLine) -> usize
     ensures { λ r. ⌜ (r ≡ length (callsIn read)) × (r ≤ 1) ⌝ }
 {
     match read {
-        LineKind::OtherShape => 0,
-        LineKind::Blank => 0,
-        LineKind::Call {
+        ScriptLine::OtherShape => 0,
+        ScriptLine::Blank => 0,
+        ScriptLine::Call {
             offset: _,
             value: _,
         } => 1,
@@ -81,20 +75,20 @@ fn calls_in(read: LineKind) -> usize
 
 // Counts the calls of a text.
 pub(crate) fn count_calls(text: &[u8]) -> TextRead
-    ensures { λ r. ⌜ linesReply r ≡ countFrom 0 (scriptCalls (now (text .entry))) ⌝ }
+    ensures { λ r. ⌜ callCountReply r ≡ onReply length (scriptCalls (now (text .entry))) ⌝ }
 {
     let mut at = 0;
     let mut passed = 0;
     let mut calls = 0;
     while at < text.len() {
-        match next_line(text, at) {
-            NextLine::TooLong => {
+        match next_script_line(text, at) {
+            NextScriptLine::TooLong => {
                 return TextRead::TooLong { line: passed + 1 };
             }
-            NextLine::OtherShape => {
+            NextScriptLine::OtherShape => {
                 return TextRead::OtherShape { line: passed + 1 };
             }
-            NextLine::Taken { length, read } => {
+            NextScriptLine::Taken { length, read } => {
                 at += length + 1;
                 passed += 1;
                 calls += calls_in(read);

@@ -1,6 +1,4 @@
-pub mod Selection
-pub mod PageWrites
 pub mod Runs
-pub mod Tickers
+pub mod Selecting
 pub mod Order
 pub mod Examples

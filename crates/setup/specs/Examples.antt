@@ -1,12 +1,14 @@
--- Demand 3 is no empty claim: a list of two blocks that meets its premises, and for each premise two blocks that break it alone and end otherwise in the
--- other order. All from the hub 0x3D at reset.
+-- Demand 3 is no empty claim: a list of two blocks that meets its premises, and for each premise two blocks that break
+-- it alone and end otherwise in the other order. All from the hub 0x3D at reset.
 -- Assumes nothing.
 use mathlib.Core.List.{[], _∷_}
 use Prim.Native.Nat.{ℕ, _≤_, _<_}
 use lib.ListN.{length}
 use Rattle.hub.specs.declared.Hub.{Hub}
 use Rattle.hub.specs.Hubs.{hubAt}
-use Rattle.setup.specs.SetupBlocks.{Burst, Block, runBlocks, blockBytes, StartsWithSelection, AllPerPort, later, tickers, SetupBlocks}
+use Rattle.registers.specs.Bursts.{AllPerPort}
+use Rattle.setup.specs.SetupBlocks.{Burst, Block, runBlocks, blockWrites, StartsWithSelection, laterWrites}
+use Rattle.setup.specs.SetupBlocks.{selecting, SetupBlocks}
 use Rattle.setup.specs.Demand3.{Alike}
 
 abbrev start : Hub
@@ -20,15 +22,16 @@ write offset value = record { offset = offset; values = value ∷ [] }
 abbrev EndAlike : Block → Block → Type 0
 EndAlike a b = Alike (runBlocks start (a ∷ b ∷ [])) (runBlocks start (b ∷ a ∷ []))
 
--- the premises one by one: both blocks start with the selection, their later bytes are per-port, and no port is ticked by both
+-- the premises one by one: both blocks start with the selection, their later bytes are per-port, and no port is ticked
+-- by both
 abbrev Start : Block → Block → Type 0
-Start a b = StartsWithSelection (blockBytes a) × StartsWithSelection (blockBytes b)
+Start a b = StartsWithSelection (blockWrites a) × StartsWithSelection (blockWrites b)
 
 abbrev PerPort : Block → Block → Type 0
-PerPort a b = AllPerPort (later (blockBytes a)) × AllPerPort (later (blockBytes b))
+PerPort a b = AllPerPort (laterWrites (blockWrites a)) × AllPerPort (laterWrites (blockWrites b))
 
 abbrev Disjoint : Block → Block → Type 0
-Disjoint a b = (port : ℕ) → port < 4 → length (tickers port (a ∷ b ∷ [])) ≤ 1
+Disjoint a b = (port : ℕ) → port < 4 → length (selecting port (a ∷ b ∷ [])) ≤ 1
 
 -- Ports 0 and 3 get pass-through, with an empty burst on the way; port 1 gets channel 1 for both formats by a burst.
 abbrev pub passThrough03 : Block
@@ -65,7 +68,8 @@ pub record PerPortNeeded : Type 0 where
   pub disjoint : Disjoint forward0 forward1
   pub differ : EndAlike forward0 forward1 → ⊥
 
--- A block that does not start with 0x4C writes under the selection that the other one left. (By the value of its first byte it would tick port 3.)
+-- A block that does not start with 0x4C writes under the selection that the other one left. (By the value of its first
+-- byte it would tick port 3.)
 abbrev pub passThroughUnselected : Block
 passThroughUnselected = write 0x58 0x58 ∷ []
 

@@ -1,1 +1,2 @@
-// No code: setup blocks and demand 3, over the definitions that the contracts of the crate hub cite. specs/ has the claim, proofs/ its proof.
+// No code: setup blocks and demand 3, over the definitions that the contracts of the crate hub cite. specs/ has the
+// claim, proofs/ its proof.

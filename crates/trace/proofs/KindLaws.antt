@@ -1,36 +1,82 @@
--- What holds of refusal 13 and of a record of each kind holds of what is found.
+-- Laws of the table of kinds: a kind that is not in it, and what holds of refusal 13 and of a record of each kind.
 -- Assumes nothing.
-use mathlib.Core.Bool.{Bool, true, false, cond}
-use mathlib.Core.List.{List}
+use mathlib.Core.Path.{_≡_, refl}
+use mathlib.Core.Bool.{Bool, true, false, cond, not, _&&_}
+use mathlib.Core.List.{List, [], _∷_}
 use Prim.Native.Nat.{ℕ, _+_, _*_}
-use lib.Dec.{eqb, leb}
+use borrow.Author.Tests.{ne-eqb}
+use lib.Dec.{eqb}
 use lib.ListN.{length, getD, drop}
 use Rattle.laws.specs.Reply.{Reply, refused, given}
-use Rattle.trace.specs.Records.{TraceRecord, writeRecord, readRecord, writeQuestion, readQuestion, startRecord, endRecord, lineRecord, ifLength, kindRecord}
+use Rattle.trace.specs.Framing.{holdsRecord, hasMark, kindOf, dataOf}
+use Rattle.trace.specs.Records.{TraceRecord, hubRecord, writeRecord, readRecord, writeQuestion, readQuestion, startRecord, endRecord, pixelLineRecord}
+use Rattle.trace.specs.Records.{questionRecord, KindRow, kindRows, kindRowIn, kindRow, lengthAllowed, kindRecord, recordOf}
+
+-- what a `match` on the kind leaves for its last arm: no row has the kind
+abbrev pub NoRow : Type 0 → List KindRow → ℕ → Type 0
+NoRow Before [] kind = Before
+NoRow Before (row ∷ rows) kind = NoRow (Before × (kind ≡ row .kind → ⊥)) rows kind
+
+-- it has the row of a kind that is not in the table
+pub no-row : {Before : Type 0} (rows : List KindRow) (kind : ℕ) → NoRow Before rows kind → Before × (kindRowIn rows kind ≡ kindRowIn [] kind)
+unfolding kindRowIn
+no-row [] kind n = (n, refl)
+no-row (row ∷ rows) kind n =
+    let later = no-row rows kind n in (later .0 .0, rw (ne-eqb kind (row .kind) (later .0 .1)) (later .1))
 
 module _ (P : Reply TraceRecord → Type 0) where
   -- by either way of a test
-  pub either : (b : Bool) {x y : Reply TraceRecord} → P x → P y → P (cond b x y)
+  either : (b : Bool) {x y : Reply TraceRecord} → P x → P y → P (cond b x y)
   either true p q = p
   either false p q = q
 
   module _ (none : P (refused 13)) where
-    -- by the test of the record's length
-    pub sized : (fits : Bool) {wanted : TraceRecord} → P (given wanted) → P (ifLength fits wanted)
-    sized fits p = either fits p none
+    -- what each row asks
+    abbrev Asked : List KindRow → List ℕ → Type 0
+    Asked [] bytes = Unit
+    Asked (row ∷ rows) bytes = P (row .asked bytes) × Asked rows bytes
 
-    -- behind the first record
-    pub later-kind : (kind : ℕ) (bytes : List ℕ) → P (given (writeRecord (getD bytes 0 0) (drop 1 bytes))) → P (given (readRecord (getD bytes 0 0)))
-        → P (given (writeQuestion (getD bytes 0 0))) → P (given (readQuestion (getD bytes 0 0)))
-        → P (given (startRecord (getD bytes 0 0) (getD bytes 1 0))) → P (given (endRecord (getD bytes 0 0)))
-        → P (given (lineRecord (getD bytes 0 0) (getD bytes 1 0 + 256 * getD bytes 2 0) (getD bytes 3 0 + 256 * getD bytes 4 0)))
-        → P (kindRecord false kind bytes)
-    unfolding kindRecord
-    later-kind kind bytes write read hears answers start end line =
-        either (eqb kind 0x01) (sized (leb 2 (length bytes)) write)
-        (either (eqb kind 0x02) (sized (eqb (length bytes) 1) read)
-        (either (eqb kind 0x03)
-        (either (eqb (getD bytes 1 0) 0) (sized (eqb (length bytes) 2) hears) (either (eqb (getD bytes 1 0) 1) (sized (eqb (length bytes) 2) answers) none))
-        (either (eqb kind 0x10) (sized (eqb (length bytes) 2) start)
-        (either (eqb kind 0x11) (sized (eqb (length bytes) 1) end)
-        (either (eqb kind 0x12) (sized (eqb (length bytes) 5) line) none)))))
+    by-row : (rows : List KindRow) (kind : ℕ) (bytes : List ℕ) → Asked rows bytes → P (kindRowIn rows kind .asked bytes)
+    unfolding kindRowIn
+    by-row [] kind bytes a = none
+    by-row (row ∷ rows) kind bytes a = go (eqb kind (row .kind)) (by-row rows kind bytes (a .1))
+      where
+        go : (b : Bool) → P (kindRowIn rows kind .asked bytes) → P (cond b row (kindRowIn rows kind) .asked bytes)
+        go true later = a .0
+        go false later = later
+
+    -- a record of a kind; the hub record is the first alone
+    by-kind : (first : Bool) (kind : ℕ) (bytes : List ℕ) → (first ≡ true → P (given (hubRecord (getD bytes 0 0))))
+        → Asked (drop 1 kindRows) bytes → P (kindRecord first kind bytes)
+    unfolding kindRows kindRecord kindRowIn
+    by-kind true kind bytes hub later = either (eqb kind 0x00 && lengthAllowed kind (length bytes)) (by-row kindRows kind bytes (hub refl, later)) none
+    by-kind false kind bytes hub later = go (eqb kind 0x00) (lengthAllowed kind (length bytes))
+      where
+        go : (b allowed : Bool)
+            → P (cond (not b && allowed) (cond b (kindRow 0x00) (kindRowIn (drop 1 kindRows) kind) .asked bytes) (refused 13))
+        go true allowed = none
+        go false allowed = either allowed (by-row (drop 1 kindRows) kind bytes later) none
+
+    -- the record at the start of some bytes, by what it may ask
+    pub by-record : (first : Bool) (bytes : List ℕ) →
+        let d = dataOf bytes in
+        (first ≡ true → P (given (hubRecord (getD d 0 0))))
+        → P (given (writeRecord (getD d 0 0) (drop 1 d)))
+        → P (given (readRecord (getD d 0 0)))
+        → P (given (writeQuestion (getD d 0 0)))
+        → P (given (readQuestion (getD d 0 0)))
+        → P (given (startRecord (getD d 0 0) (getD d 1 0)))
+        → P (given (endRecord (getD d 0 0)))
+        → P (given (pixelLineRecord (getD d 0 0) (getD d 1 0 + 256 * getD d 2 0) (getD d 3 0 + 256 * getD d 4 0)))
+        → P (recordOf first bytes)
+    unfolding kindRows recordOf questionRecord
+    by-record first bytes hub write read hears answers start end line =
+        let direction = getD (dataOf bytes) 1 0 in
+        let question = either (eqb direction 0) hears (either (eqb direction 1) answers none) in
+        either (holdsRecord bytes && hasMark bytes)
+        (by-kind first (kindOf bytes) (dataOf bytes) hub (write, (read, (question, (start, (end, (line, tt)))))))
+        none
+
+    -- whatever it asks
+    pub by-any : (first : Bool) (bytes : List ℕ) → ((asked : TraceRecord) → P (given asked)) → P (recordOf first bytes)
+    by-any first bytes any = by-record first bytes (λ e. any _) (any _) (any _) (any _) (any _) (any _) (any _) (any _)

@@ -1,4 +1,2 @@
-pub mod RecordLaws
 pub mod KindLaws
-pub mod WindowLaws
-pub mod RecordBytesLaws
+pub mod RecordLaws

@@ -1,3 +1,4 @@
+pub mod Framing
 pub mod Records
-pub mod Windows
-pub mod RecordBytes
+pub mod Laws
+pub mod Contracts

@@ -1,13 +1,19 @@
-// The record at the start of a trace's bytes: the mark 9A 64, a kind, a length n, then n bytes.
+// The records of a trace file: the one at the start of some bytes, its data, and how many bytes it takes.
 ghost use mathlib.Core.Path.{_≡_};
-ghost use mathlib.Core.Bool.{false};
-ghost use Prim.Native.Nat.{_+_, _*_, _≤_};
-ghost use lib.ListN.{length};
-ghost use Rattle.trace.specs.Records.{hubData, writeData, readData, questionData, startData, endData, lineData, kindRecord, kindOf, recordLength, dataOf, holdsRecord, recordOf, valuesOf, foundReply};
+ghost use Prim.Native.Nat.{_+_, _*_};
+ghost use lib.ListN.{getD, drop};
+ghost use Rattle.trace.specs.Framing.{dataOf};
+ghost use Rattle.trace.specs.Records.{questionRecord, kindRow, lengthAllowed, mayStand, kindRecord, recordOf};
+ghost use Rattle.trace.specs.Records.{foundReply};
+ghost use Rattle.trace.specs.Contracts.{LengthsOf};
+pub use framing::data_of;
+pub use framing::holds_record;
+pub use framing::record_length;
 
-// What stands at the start of the bytes: a record, or none that the format has.
-pub enum FoundRecord {
-    NoRecord,
+mod framing;
+
+// What a record asks of the hub. The values of a write are by a question of their own.
+pub enum Record {
     Hub { address: u8 },
     Write { offset: u8 },
     Read { offset: u8 },
@@ -15,175 +21,124 @@ pub enum FoundRecord {
     ReadQuestion { address: u8 },
     Start { port: u8, bits: u8 },
     End { port: u8 },
-    Line { port: u8, width: u16, pixel: u16 },
+    PixelLine { port: u8, width: u16, pixel: u16 },
 }
 
-fn two_bytes(low: u8, high: u8) -> u16
-    ensures { λ r. ⌜ r ≡ low + 256 * high ⌝ }
-{
-    (low as u16) + 256 * (high as u16)
+// What stands at the start of some bytes: a record, or none that the format has.
+pub enum FoundRecord {
+    NoRecord,
+    Found(Record),
 }
 
-fn four_more(n: u8) -> usize
-    ensures { λ r. ⌜ r ≡ 4 + n ⌝ }
-{
-    4 + (n as usize)
+// How many bytes of data a kind has: the least and the most.
+pub(crate) struct DataLengths {
+    pub least: usize,
+    pub most: usize,
 }
 
-// How many bytes the record at the start has by its length byte; 4 where that is missing.
-pub fn record_length(bytes: &[u8]) -> usize
-    ensures { λ r. ⌜ r ≡ recordLength (now (bytes .entry)) ⌝ }
+// The table of the kinds; a kind that is not in it has no length.
+fn data_lengths(kind: u8) -> DataLengths
+    ensures { λ r. ⌜ LengthsOf (kindRow kind) r ⌝ }
 {
-    if bytes.len() < 4 {
-        return 4;
+    match kind {
+        0x00 => DataLengths { least: 1, most: 1 },
+        0x01 => DataLengths {
+            least: 2,
+            most: 255,
+        },
+        0x02 => DataLengths { least: 1, most: 1 },
+        0x03 => DataLengths { least: 2, most: 2 },
+        0x10 => DataLengths { least: 2, most: 2 },
+        0x11 => DataLengths { least: 1, most: 1 },
+        0x12 => DataLengths { least: 5, most: 5 },
+        _ => DataLengths { least: 1, most: 0 },
     }
-    four_more(bytes[3])
 }
 
-// Whether the bytes hold a whole record.
-pub fn holds_record(bytes: &[u8]) -> bool
-    ensures { λ r. ⌜ r ≡ holdsRecord (now (bytes .entry)) ⌝ }
+// Whether a record of the kind may have so many bytes of data.
+fn length_allowed(kind: u8, count: usize) -> bool
+    ensures { λ r. ⌜ r ≡ lengthAllowed kind count ⌝ }
 {
-    if bytes.len() < 4 {
-        return false;
-    }
-    four_more(bytes[3]) <= bytes.len()
+    let lengths = data_lengths(kind);
+    lengths.least <= count && count <= lengths.most
 }
 
-// A record by its kind, where the bytes hold it whole.
-fn hub_record(bytes: &[u8]) -> FoundRecord
-    requires { ⌜ recordLength (now bytes) ≤ length (now bytes) ⌝ }
-    ensures { λ r. ⌜ foundReply (now (bytes .entry)) r ≡ hubData (dataOf (now (bytes .entry))) ⌝ }
+// Whether a record of the kind may stand there: the hub record first and only there.
+fn may_stand(first: bool, kind: u8) -> bool
+    ensures { λ r. ⌜ r ≡ mayStand first kind ⌝ }
 {
-    if bytes[3] != 1 {
-        return FoundRecord::NoRecord;
+    if first {
+        return kind == 0x00;
     }
-    FoundRecord::Hub { address: bytes[4] }
+    kind != 0x00
 }
 
-fn write_record(bytes: &[u8]) -> FoundRecord
-    requires { ⌜ recordLength (now bytes) ≤ length (now bytes) ⌝ }
-    ensures { λ r. ⌜ foundReply (now (bytes .entry)) r ≡ writeData (dataOf (now (bytes .entry))) ⌝ }
+fn question(bytes: &[u8]) -> FoundRecord
+    ensures { λ r. ⌜ foundReply (now (bytes .entry)) r ≡ questionRecord (now (bytes .entry)) ⌝ }
 {
-    if bytes[3] < 2 {
-        return FoundRecord::NoRecord;
-    }
-    FoundRecord::Write { offset: bytes[4] }
-}
-
-fn read_record(bytes: &[u8]) -> FoundRecord
-    requires { ⌜ recordLength (now bytes) ≤ length (now bytes) ⌝ }
-    ensures { λ r. ⌜ foundReply (now (bytes .entry)) r ≡ readData (dataOf (now (bytes .entry))) ⌝ }
-{
-    if bytes[3] != 1 {
-        return FoundRecord::NoRecord;
-    }
-    FoundRecord::Read { offset: bytes[4] }
-}
-
-fn question_record(bytes: &[u8]) -> FoundRecord
-    requires { ⌜ recordLength (now bytes) ≤ length (now bytes) ⌝ }
-    ensures { λ r. ⌜ foundReply (now (bytes .entry)) r ≡ questionData (dataOf (now (bytes .entry))) ⌝ }
-{
-    if bytes[3] != 2 {
-        return FoundRecord::NoRecord;
-    }
-    let address = bytes[4];
-    match bytes[5] {
-        0 => FoundRecord::WriteQuestion { address },
-        1 => FoundRecord::ReadQuestion { address },
+    let address = buffers::byte_at(bytes, 0);
+    match buffers::byte_at(bytes, 1) {
+        0 => FoundRecord::Found(Record::WriteQuestion { address }),
+        1 => FoundRecord::Found(Record::ReadQuestion { address }),
         _ => FoundRecord::NoRecord,
     }
 }
 
-fn start_record(bytes: &[u8]) -> FoundRecord
-    requires { ⌜ recordLength (now bytes) ≤ length (now bytes) ⌝ }
-    ensures { λ r. ⌜ foundReply (now (bytes .entry)) r ≡ startData (dataOf (now (bytes .entry))) ⌝ }
+// Two bytes of the data as one number, the first lowest.
+fn number(bytes: &[u8], low: usize, high: usize) -> u16
+    ensures { λ r. ⌜ r ≡ getD (now (bytes .entry)) low 0 + 256 * getD (now (bytes .entry)) high 0 ⌝ }
 {
-    if bytes[3] != 2 {
-        return FoundRecord::NoRecord;
-    }
-    FoundRecord::Start {
-        port: bytes[4],
-        bits: bytes[5],
-    }
+    buffers::two_bytes(buffers::byte_at(bytes, low), buffers::byte_at(bytes, high))
 }
 
-fn end_record(bytes: &[u8]) -> FoundRecord
-    requires { ⌜ recordLength (now bytes) ≤ length (now bytes) ⌝ }
-    ensures { λ r. ⌜ foundReply (now (bytes .entry)) r ≡ endData (dataOf (now (bytes .entry))) ⌝ }
+// What a record of the kind asks by its data.
+fn data_record(kind: u8, bytes: &[u8]) -> FoundRecord
+    ensures { λ r. ⌜ foundReply (now (bytes .entry)) r ≡ kindRow kind .asked (now (bytes .entry)) ⌝ }
 {
-    if bytes[3] != 1 {
-        return FoundRecord::NoRecord;
-    }
-    FoundRecord::End { port: bytes[4] }
-}
-
-fn line_record(bytes: &[u8]) -> FoundRecord
-    requires { ⌜ recordLength (now bytes) ≤ length (now bytes) ⌝ }
-    ensures { λ r. ⌜ foundReply (now (bytes .entry)) r ≡ lineData (dataOf (now (bytes .entry))) ⌝ }
-{
-    if bytes[3] != 5 {
-        return FoundRecord::NoRecord;
-    }
-    FoundRecord::Line {
-        port: bytes[4],
-        width: two_bytes(bytes[5], bytes[6]),
-        pixel: two_bytes(bytes[7], bytes[8]),
-    }
-}
-
-// A record that is not the trace's first, by its kind.
-fn later_record(bytes: &[u8]) -> FoundRecord
-    requires { ⌜ recordLength (now bytes) ≤ length (now bytes) ⌝ }
-    ensures { λ r. ⌜ foundReply (now (bytes .entry)) r ≡ kindRecord false (kindOf (now (bytes .entry))) (dataOf (now (bytes .entry))) ⌝ }
-{
-    match bytes[2] {
-        0x01 => write_record(bytes),
-        0x02 => read_record(bytes),
-        0x03 => question_record(bytes),
-        0x10 => start_record(bytes),
-        0x11 => end_record(bytes),
-        0x12 => line_record(bytes),
+    let first = buffers::byte_at(bytes, 0);
+    let second = buffers::byte_at(bytes, 1);
+    match kind {
+        0x00 => FoundRecord::Found(Record::Hub { address: first }),
+        0x01 => FoundRecord::Found(Record::Write { offset: first }),
+        0x02 => FoundRecord::Found(Record::Read { offset: first }),
+        0x03 => question(bytes),
+        0x10 => FoundRecord::Found(Record::Start {
+            port: first,
+            bits: second,
+        }),
+        0x11 => FoundRecord::Found(Record::End { port: first }),
+        0x12 => FoundRecord::Found(Record::PixelLine {
+            port: first,
+            width: number(bytes, 1, 2),
+            pixel: number(bytes, 3, 4),
+        }),
         _ => FoundRecord::NoRecord,
     }
+}
+
+// A record by its kind and its data; `first` says that it is the trace's first.
+fn kind_record(first: bool, kind: u8, bytes: &[u8]) -> FoundRecord
+    ensures { λ r. ⌜ foundReply (now (bytes .entry)) r ≡ kindRecord first kind (now (bytes .entry)) ⌝ }
+{
+    if may_stand(first, kind) && length_allowed(kind, bytes.len()) {
+        return data_record(kind, bytes);
+    }
+    FoundRecord::NoRecord
 }
 
 // The record at the start of the bytes; `first` says that it is the trace's first.
 pub fn record_at(bytes: &[u8], first: bool) -> FoundRecord
-    ensures { λ r. ⌜ foundReply (now (bytes .entry)) r ≡ recordOf first (now (bytes .entry)) ⌝ }
+    ensures { λ r. ⌜ foundReply (dataOf (now (bytes .entry))) r ≡ recordOf first (now (bytes .entry)) ⌝ }
 {
-    if !holds_record(bytes) {
-        return FoundRecord::NoRecord;
+    if holds_record(bytes) && framing::has_mark(bytes) {
+        return kind_record(first, framing::kind_of(bytes), data_of(bytes));
     }
-    if bytes[0] != 0x9A {
-        return FoundRecord::NoRecord;
-    }
-    if bytes[1] != 0x64 {
-        return FoundRecord::NoRecord;
-    }
-    if !first {
-        return later_record(bytes);
-    }
-    if bytes[2] != 0x00 {
-        return FoundRecord::NoRecord;
-    }
-    hub_record(bytes)
+    FoundRecord::NoRecord
 }
 
-// The values of the write record at the start, as a part of the bytes; where they are cut short, those that are there.
+// The values of the write record at the start: its data after the offset.
 pub fn values(bytes: &[u8]) -> &[u8]
-    ensures { λ r. ⌜ now r ≡ valuesOf (now (bytes .entry)) ⌝ }
+    ensures { λ r. ⌜ now r ≡ drop 1 (dataOf (now (bytes .entry))) ⌝ }
 {
-    if bytes.len() < 5 {
-        return &bytes[..0];
-    }
-    let end = record_length(bytes);
-    if end < 5 {
-        return &bytes[..0];
-    }
-    if bytes.len() < end {
-        return &bytes[5..];
-    }
-    &bytes[5..end]
+    buffers::bytes_from(data_of(bytes), 1)
 }

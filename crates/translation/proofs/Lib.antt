@@ -1,1 +1,3 @@
-pub mod TranslationLaws
+pub mod Collecting
+pub mod Laws
+pub mod Refusals

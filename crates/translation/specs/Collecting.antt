@@ -2,10 +2,10 @@
 -- Assumes nothing.
 use mathlib.Core.List.{List, []}
 use Rattle.translation.specs.declared.PortDevice.{PortDevice}
-use Rattle.translation.specs.declared.Matches.{Matches}
-use Rattle.translation.specs.declared.Matches.the-variants.{Nobody, Devices}
+use Rattle.translation.specs.declared.Receivers.{Receivers}
+use Rattle.translation.specs.declared.Receivers.the-variants.{NoDevice, Devices}
 use Rattle.translation.specs.Translation.{devicesOf}
 
-abbrev pub matchesOf : Matches → List PortDevice
-matchesOf Nobody = []
-matchesOf (Devices devices) = devicesOf devices
+abbrev pub collected : Receivers → List PortDevice
+collected NoDevice = []
+collected (Devices devices) = devicesOf devices

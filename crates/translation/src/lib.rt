@@ -3,10 +3,11 @@ ghost use mathlib.Core.Path.{_≡_};
 ghost use mathlib.Core.List.{[], _∷_, _++_};
 ghost use Prim.Native.Nat.{_<_};
 ghost use lib.ListN.{take};
-ghost use Rattle.translation.specs.Translation.{isAlias, targetFrom, onPort, onPorts, matching, found, devicesOf, writeReply, whoHearsWrite, answered, readReply, whoAnswersRead};
-ghost use Rattle.laws.specs.Reply.{given};
+ghost use Rattle.translation.specs.Translation.{isAlias, targetFrom, onPort, onPorts, receivers, addresseeOf};
+ghost use Rattle.translation.specs.Translation.{devicesOf, writeReply, whoHearsWrite};
+ghost use Rattle.translation.specs.Translation.{answered, readReply, whoAnswersRead};
 ghost use Rattle.translation.specs.declared.PortAnswer.the-variants.{NoMatch};
-ghost use Rattle.translation.specs.Collecting.{matchesOf};
+ghost use Rattle.translation.specs.Collecting.{collected};
 use hub::Hub;
 use registers::bits;
 use registers::map;
@@ -26,7 +27,7 @@ pub struct PortDevice {
 // The port's device for an address, if the port matches.
 pub enum PortAnswer {
     NoMatch,
-    Device { port: u8, remote: Remote },
+    Device(PortDevice),
 }
 
 // The devices that a write reaches, ports rising: at most one a port.
@@ -41,7 +42,7 @@ pub enum Devices {
 pub enum WriteAnswer {
     AddressAbove7F,
     Hub,
-    Nobody,
+    NoDevice,
     Devices(Devices),
 }
 
@@ -50,14 +51,34 @@ pub enum ReadAnswer {
     AddressAbove7F,
     Unclear,
     Hub,
-    Nobody,
-    Device { port: u8, remote: Remote },
+    NoDevice,
+    Device(PortDevice),
+}
+
+// Whom an address may be for: nobody, because it has more than 7 bits; the hub; or devices behind the ports.
+enum Addressee {
+    OutOfRange,
+    TheHub,
+    Ports,
 }
 
 // The devices of the ports that match.
-enum Matches {
-    Nobody,
+enum Receivers {
+    NoDevice,
     Devices(Devices),
+}
+
+// Whom the address is for, before the ports are asked.
+fn addressee_of(hub: Hub, address: u8) -> Addressee
+    ensures { λ r. ⌜ r ≡ addresseeOf hub address ⌝ }
+{
+    if 0x7F < address {
+        return Addressee::OutOfRange;
+    }
+    if address == hub.address {
+        return Addressee::TheHub;
+    }
+    Addressee::Ports
 }
 
 // Whether an alias register is on and has the address in its bits 7 to 1.
@@ -80,13 +101,13 @@ fn target_on(pages: &[u8; 1024], port: u8, address: u8) -> PortAnswer
     let mut k: u8 = 0;
     while k < 8 {
         if is_alias(pages[page + (map::TARGET_ALIAS_0 + k as usize)], address) {
-            return PortAnswer::Device {
+            return PortAnswer::Device(PortDevice {
                 port,
                 remote: Remote::Target {
                     number: k,
                     address: pages[page + (map::TARGET_ID_0 + k as usize)] / 2,
                 },
-            };
+            });
         }
         k += 1;
     }
@@ -103,12 +124,12 @@ fn on_port(pages: &[u8; 1024], port: u8, address: u8) -> PortAnswer
         return PortAnswer::NoMatch;
     }
     if is_alias(pages[page + map::SER_ALIAS_ID], address) {
-        return PortAnswer::Device {
+        return PortAnswer::Device(PortDevice {
             port,
             remote: Remote::Serializer {
                 address: pages[page + map::SER_ID] / 2,
             },
-        };
+        });
     }
     target_on(pages, port, address)
 }
@@ -125,31 +146,31 @@ fn one_more(devices: Devices, d: PortDevice) -> Devices
     }
 }
 
-// The matches so far, and one device more.
-fn with_device(so_far: Matches, d: PortDevice) -> Matches
-    ensures { λ r. ⌜ matchesOf r ≡ take 4 (matchesOf «so_far» ++ (d ∷ [])) ⌝ }
+// The receivers so far, and one device more.
+fn with_device(so_far: Receivers, d: PortDevice) -> Receivers
+    ensures { λ r. ⌜ collected r ≡ take 4 (collected «so_far» ++ (d ∷ [])) ⌝ }
 {
     match so_far {
-        Matches::Nobody => Matches::Devices(Devices::One(d)),
-        Matches::Devices(devices) => Matches::Devices(one_more(devices, d)),
+        Receivers::NoDevice => Receivers::Devices(Devices::One(d)),
+        Receivers::Devices(devices) => Receivers::Devices(one_more(devices, d)),
     }
 }
 
-// The matches so far, and one port's answer more.
-fn with_port(so_far: Matches, answer: PortAnswer) -> Matches
-    ensures { λ r. ⌜ matchesOf r ≡ take 4 (matchesOf «so_far» ++ matching (answer ∷ [])) ⌝ }
+// The receivers so far, and one port's answer more.
+fn with_port(so_far: Receivers, answer: PortAnswer) -> Receivers
+    ensures { λ r. ⌜ collected r ≡ take 4 (collected «so_far» ++ receivers (answer ∷ [])) ⌝ }
 {
     match answer {
         PortAnswer::NoMatch => so_far,
-        PortAnswer::Device { port, remote } => with_device(so_far, PortDevice { port, remote }),
+        PortAnswer::Device(d) => with_device(so_far, d),
     }
 }
 
 // The devices of the ports that match, ports rising.
-fn matches_for(pages: &[u8; 1024], address: u8) -> Matches
-    ensures { λ r. ⌜ matchesOf r ≡ matching (onPorts (now (pages .entry)) address) ⌝ }
+fn receivers_of(pages: &[u8; 1024], address: u8) -> Receivers
+    ensures { λ r. ⌜ collected r ≡ receivers (onPorts (now (pages .entry)) address) ⌝ }
 {
-    let none = Matches::Nobody;
+    let none = Receivers::NoDevice;
     let port_0 = with_port(none, on_port(pages, 0, address));
     let port_1 = with_port(port_0, on_port(pages, 1, address));
     let port_2 = with_port(port_1, on_port(pages, 2, address));
@@ -160,26 +181,17 @@ fn matches_for(pages: &[u8; 1024], address: u8) -> Matches
 pub fn who_hears_write(hub: Hub, address: u8) -> WriteAnswer
     ensures { λ r. ⌜ writeReply r ≡ whoHearsWrite hub address ⌝ }
 {
-    if 0x7F < address {
-        return WriteAnswer::AddressAbove7F;
+    match addressee_of(hub, address) {
+        Addressee::OutOfRange => WriteAnswer::AddressAbove7F,
+        Addressee::TheHub => WriteAnswer::Hub,
+        Addressee::Ports => {
+            let file = hub.registers;
+            match receivers_of(&file.pages, address) {
+                Receivers::NoDevice => WriteAnswer::NoDevice,
+                Receivers::Devices(devices) => WriteAnswer::Devices(devices),
+            }
+        }
     }
-    if address == hub.address {
-        return WriteAnswer::Hub;
-    }
-    let file = hub.registers;
-    match matches_for(&file.pages, address) {
-        Matches::Nobody => WriteAnswer::Nobody,
-        Matches::Devices(devices) => WriteAnswer::Devices(devices),
-    }
-}
-
-// The answer to a read that a device gives.
-fn answer_by(d: PortDevice) -> ReadAnswer
-    ensures { λ r. ⌜ readReply r ≡ given (found d) ⌝ }
-{
-    let port = d.port;
-    let remote = d.remote;
-    ReadAnswer::Device { port, remote }
 }
 
 // Who answers a read by the devices of the ports that match: the one there is.
@@ -187,7 +199,7 @@ fn only_device(devices: Devices) -> ReadAnswer
     ensures { λ r. ⌜ readReply r ≡ answered NoMatch (devicesOf devices) ⌝ }
 {
     match devices {
-        Devices::One(a) => answer_by(a),
+        Devices::One(a) => ReadAnswer::Device(a),
         Devices::Two(_, _) => ReadAnswer::Unclear,
         Devices::Three(_, _, _) => ReadAnswer::Unclear,
         Devices::Four(_, _, _, _) => ReadAnswer::Unclear,
@@ -195,12 +207,12 @@ fn only_device(devices: Devices) -> ReadAnswer
 }
 
 // Who answers a read where the read port does not match.
-fn only_match(pages: &[u8; 1024], address: u8) -> ReadAnswer
-    ensures { λ r. ⌜ readReply r ≡ answered NoMatch (matching (onPorts (now (pages .entry)) address)) ⌝ }
+fn only_receiver(pages: &[u8; 1024], address: u8) -> ReadAnswer
+    ensures { λ r. ⌜ readReply r ≡ answered NoMatch (receivers (onPorts (now (pages .entry)) address)) ⌝ }
 {
-    match matches_for(pages, address) {
-        Matches::Nobody => ReadAnswer::Nobody,
-        Matches::Devices(devices) => only_device(devices),
+    match receivers_of(pages, address) {
+        Receivers::NoDevice => ReadAnswer::NoDevice,
+        Receivers::Devices(devices) => only_device(devices),
     }
 }
 
@@ -208,16 +220,16 @@ fn only_match(pages: &[u8; 1024], address: u8) -> ReadAnswer
 pub fn who_answers_read(hub: Hub, address: u8) -> ReadAnswer
     ensures { λ r. ⌜ readReply r ≡ whoAnswersRead hub address ⌝ }
 {
-    if 0x7F < address {
-        return ReadAnswer::AddressAbove7F;
-    }
-    if address == hub.address {
-        return ReadAnswer::Hub;
-    }
-    let file = hub.registers;
-    let read_port = registers::read_port(file);
-    match on_port(&file.pages, read_port, address) {
-        PortAnswer::Device { port, remote } => ReadAnswer::Device { port, remote },
-        PortAnswer::NoMatch => only_match(&file.pages, address),
+    match addressee_of(hub, address) {
+        Addressee::OutOfRange => ReadAnswer::AddressAbove7F,
+        Addressee::TheHub => ReadAnswer::Hub,
+        Addressee::Ports => {
+            let file = hub.registers;
+            let read_port = registers::read_port(file);
+            match on_port(&file.pages, read_port, address) {
+                PortAnswer::Device(d) => ReadAnswer::Device(d),
+                PortAnswer::NoMatch => only_receiver(&file.pages, address),
+            }
+        }
     }
 }

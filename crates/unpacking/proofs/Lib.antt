@@ -1,4 +1,4 @@
 pub mod PixelLaws
-pub mod StoreLaws
+pub mod WordLaws
 pub mod AnswerLaws
 pub mod RoundLaws

@@ -1,24 +1,20 @@
 -- Laws of unpacked pixels, for both formats by the laws of groups: how many there are, that they fit, and that packing and unpacking undo each other.
 -- Assumes nothing.
 use mathlib.Core.Path.{_≡_, refl, sym, ap, ap₂, _∙_}
-use mathlib.Core.Bool.{true}
 use mathlib.Core.List.{List, [], _∷_, _++_, map}
 use Prim.Native.Nat.{ℕ, zero, suc, _+_, _*_, _/_, _%_, _^_, _≤_, _<_}
 use native.Mathlib.Nat.{div-mul-le-self, pow-zero, pow-suc}
 use native.Mathlib.Omega.{arith}
-use borrow.Author.Tests.{lt-ltb, ltb-true}
-use lib.Dec.{ltb}
 use lib.ListN.{length, getD, take, length-map}
-use lib.Pow.{pow-pos}
 use lib.Seq.{length-take-le, take-suc, take-all, take-at, getD-at}
 use Rattle.laws.specs.Elements.{AllBelow, AreBytes}
-use Rattle.laws.proofs.Bools.{both}
 use Rattle.laws.proofs.Elements.{below-to}
 use Rattle.laws.proofs.Groups.{length-groups, below-groups}
 use Rattle.formats.specs.declared.Format.{Format}
 use Rattle.formats.specs.declared.Format.the-variants.{Raw10, Raw12}
-use Rattle.packing.specs.Raw.{groupPixels, groupBytes, lowBits, upperByte, lowByte, packGroup, allFit}
-use Rattle.packing.proofs.RawLaws.{byte-more}
+use Rattle.packing.specs.Raw.{groupPixels, groupBytes, lowBits, upperByte, lowByte, packGroup, pixelLimit}
+use Rattle.packing.proofs.RawLaws.{byte-more, group-is}
+use Rattle.packing.proofs.CheckLaws.{limit-positive, fit-below}
 use Rattle.unpacking.specs.Pixels.{joined, unpackGroup, unpackGroups, pixelsOf}
 use Rattle.unpacking.specs.RoundTrip.{GroupsUndone}
 
@@ -41,8 +37,8 @@ module _ (format : Format) where
   unfolding pixelsOf
   length-pixels payload = length-unpacked (length payload / groupBytes format) payload (div-mul-le-self (length payload) (groupBytes format))
 
--- A pixel from its two parts: its upper byte, and its low bits with those of the pixels behind it above them.
-pixel-back : (format : Format) (pixel others : ℕ) → pixel < 2 ^ (8 + lowBits format)
+-- A pixel from its two parts: its upper byte, and its low bits with those of the pixels after it above them.
+pixel-back : (format : Format) (pixel others : ℕ) → pixel < pixelLimit format
     → 2 ^ lowBits format * upperByte format pixel + (pixel % 2 ^ lowBits format + 2 ^ lowBits format * others) % 2 ^ lowBits format ≡ pixel
 pixel-back Raw10 pixel others h = omega arith
 pixel-back Raw12 pixel others h = omega arith
@@ -51,11 +47,7 @@ others-back : (format : Format) (pixel others : ℕ) → (pixel % 2 ^ lowBits fo
 others-back Raw10 pixel others = omega arith
 others-back Raw12 pixel others = omega arith
 
--- what every pixel of the format is below
-abbrev pub limit : Format → ℕ
-limit format = 2 ^ (8 + lowBits format)
-
-joined-packed : (format : Format) (pixels : List ℕ) → AllBelow (limit format) pixels → joined format (map (upperByte format) pixels) (lowByte format pixels) ≡ pixels
+joined-packed : (format : Format) (pixels : List ℕ) → AllBelow (pixelLimit format) pixels → joined format (map (upperByte format) pixels) (lowByte format pixels) ≡ pixels
 joined-packed format [] below = refl
 joined-packed format (pixel ∷ pixels) below =
     let others = lowByte format pixels in
@@ -100,57 +92,46 @@ group-split format bytes h =
     let more = byte-more format in
     sym (take-suc bytes (groupPixels format) 0 (omega arith)) ∙ take-all (suc (groupPixels format)) bytes (omega arith)
 
-pub packed-group : (format : Format) (pixels : List ℕ) → length pixels ≡ groupPixels format → AllBelow (limit format) pixels
+pub packed-group : (format : Format) (pixels : List ℕ) → length pixels ≡ groupPixels format → AllBelow (pixelLimit format) pixels
     → unpackGroup format (packGroup format pixels) ≡ pixels
-unfolding unpackGroup packGroup
+unfolding unpackGroup
 packed-group format pixels h below =
     let uppers = map (upperByte format) pixels in
     let low = lowByte format pixels in
     let l : length uppers ≡ groupPixels format = length-map pixels (upperByte format) ∙ h in
-    ap₂ (joined format) (take-at uppers (low ∷ []) (groupPixels format) l) (getD-at uppers low [] 0 (groupPixels format) l)
+    rw (group-is format pixels) (ap₂ (joined format) (take-at uppers (low ∷ []) (groupPixels format) l) (getD-at uppers low [] 0 (groupPixels format) l))
     ∙ joined-packed format pixels below
 
 pub unpacked-group : (format : Format) (bytes : List ℕ) → length bytes ≡ groupBytes format → AreBytes bytes
     → packGroup format (unpackGroup format bytes) ≡ bytes
-unfolding unpackGroup packGroup
+unfolding unpackGroup
 unpacked-group format bytes h small =
     let more = byte-more format in
     let uppers = take (groupPixels format) bytes in
     let low = getD bytes (groupPixels format) 0 in
     let l : length uppers ≡ groupPixels format = length-take-le (groupPixels format) bytes (omega arith) in
     let room : (2 ^ lowBits format) ^ length uppers ≡ 256 = ap (λ (n : ℕ). (2 ^ lowBits format) ^ n) l ∙ whole-byte format in
-    ap₂ (λ (us : List ℕ) (b : ℕ). us ++ (b ∷ [])) (uppers-joined format uppers low (below-to 256 (groupPixels format) bytes small))
+    group-is format (unpackGroup format bytes)
+    ∙ ap₂ (λ (us : List ℕ) (b : ℕ). us ++ (b ∷ [])) (uppers-joined format uppers low (below-to 256 (groupPixels format) bytes small))
     (low-joined format uppers low (rw room (small (groupPixels format))))
     ∙ group-split format bytes h
 
 -- an unpacked pixel fits its format
-pixel-small : (format : Format) (upper low : ℕ) → upper < 256 → 2 ^ lowBits format * upper + low % 2 ^ lowBits format < limit format
+pixel-small : (format : Format) (upper low : ℕ) → upper < 256 → 2 ^ lowBits format * upper + low % 2 ^ lowBits format < pixelLimit format
 pixel-small Raw10 upper low h = omega arith
 pixel-small Raw12 upper low h = omega arith
 
-joined-below : (format : Format) (uppers : List ℕ) (low : ℕ) → AreBytes uppers → AllBelow (limit format) (joined format uppers low)
-joined-below format [] low bytes i = pow-pos (8 + lowBits format)
+joined-below : (format : Format) (uppers : List ℕ) (low : ℕ) → AreBytes uppers → AllBelow (pixelLimit format) (joined format uppers low)
+joined-below format [] low bytes i = limit-positive format
 joined-below format (upper ∷ uppers) low bytes zero = pixel-small format upper low (bytes 0)
 joined-below format (upper ∷ uppers) low bytes (suc i) = joined-below format uppers (low / 2 ^ lowBits format) (λ k. bytes (suc k)) i
 
-pub pixels-below : (format : Format) (payload : List ℕ) → AreBytes payload → AllBelow (limit format) (pixelsOf format payload)
+pub pixels-below : (format : Format) (payload : List ℕ) → AreBytes payload → AllBelow (pixelLimit format) (pixelsOf format payload)
 unfolding pixelsOf unpackGroup
 pixels-below format payload small =
-    below-groups (groupBytes format) (unpackGroup format) 256 (limit format) (pow-pos (8 + lowBits format))
+    below-groups (groupBytes format) (unpackGroup format) 256 (pixelLimit format) (limit-positive format)
     (λ g bytes. joined-below format (take (groupPixels format) g) (getD g (groupPixels format) 0) (below-to 256 (groupPixels format) g bytes))
     (length payload / groupBytes format) payload small
-
--- the test of all pixels, as what holds of each
-pub fit-below : (format : Format) (pixels : List ℕ) → allFit format pixels ≡ true → AllBelow (limit format) pixels
-unfolding allFit
-fit-below format [] e i = pow-pos (8 + lowBits format)
-fit-below format (pixel ∷ pixels) e zero = ltb-true pixel (limit format) (both (ltb pixel (limit format)) (allFit format pixels) e .0)
-fit-below format (pixel ∷ pixels) e (suc i) = fit-below format pixels (both (ltb pixel (limit format)) (allFit format pixels) e .1) i
-
-pub below-fit : (format : Format) (pixels : List ℕ) → AllBelow (limit format) pixels → allFit format pixels ≡ true
-unfolding allFit
-below-fit format [] below = refl
-below-fit format (pixel ∷ pixels) below = rw (lt-ltb pixel (limit format) (below 0)) (below-fit format pixels (λ i. below (suc i)))
 
 -- each group is undone, in both directions
 pub group-laws : GroupsUndone

@@ -5,7 +5,7 @@ use mathlib.Core.List.{List}
 use Prim.Native.Nat.{ℕ, _*_, _/_, _%_}
 use lib.Dec.{leb, eqb}
 use lib.ListN.{length}
-use Rattle.laws.specs.Reply.{Reply, refused, given}
+use Rattle.laws.specs.Reply.{Reply, refused, given, andThen}
 use Rattle.laws.specs.Buffers.{ifRoom}
 use Rattle.formats.specs.declared.Format.{Format}
 use Rattle.formats.specs.Formats.{formatOf}
@@ -14,18 +14,17 @@ use Rattle.unpacking.specs.declared.UnpackAnswer.{UnpackAnswer}
 use Rattle.unpacking.specs.declared.UnpackAnswer.the-variants.{UnknownFormat, PayloadNotAllowed, NoRoom, Unpacked}
 use Rattle.unpacking.specs.Pixels.{pixelsOf}
 
--- none of L3's "payload empty or not a multiple of 5 or 3 bytes or wider than the limit", which is document 01's 4,096 pixels
+-- none of L3's "payload empty or not a multiple of 5 or 3 bytes or wider than the limit", which is document 01's
+-- 4,096 pixels
 unfoldable pub payloadAllowed : Format → ℕ → Bool
-payloadAllowed format count = leb 1 count && eqb (count % groupBytes format) 0 && leb (count / groupBytes format * groupPixels format) 4096
+payloadAllowed format count =
+    leb 1 count && eqb (count % groupBytes format) 0 && leb (count / groupBytes format * groupPixels format) 4096
 
--- the pixels of a payload, by its format: 17; then "8 where the slice is too short"
-unfoldable pub unpackWith : Reply Format → List ℕ → ℕ → Reply (List ℕ)
-unpackWith (refused number) payload size = refused number
-unpackWith (given format) payload size = cond (payloadAllowed format (length payload)) (ifRoom size 0 (pixelsOf format payload)) (refused 17)
-
--- "in the order 3, 17, 8"
-abbrev pub unpackReply : ℕ → List ℕ → ℕ → Reply (List ℕ)
-unpackReply bits payload size = unpackWith (formatOf bits) payload size
+-- the pixels of a payload, "in the order 3, 17, 8"; "8 where the slice is too short"
+unfoldable pub unpackReply : ℕ → List ℕ → ℕ → Reply (List ℕ)
+unpackReply bits payload size =
+    andThen (formatOf bits) (λ format.
+    cond (payloadAllowed format (length payload)) (ifRoom size 0 (pixelsOf format payload)) (refused 17))
 
 -- the papers' numbers and values for each case of the answer
 abbrev pub unpackAnswerReply : UnpackAnswer → Reply ℕ

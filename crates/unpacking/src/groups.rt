@@ -10,8 +10,8 @@ ghost use Rattle.unpacking.specs.Pixels.{unpackGroup, pixelsOf};
 ghost use Rattle.unpacking.specs.Words.{spreadPairs};
 use formats::Format;
 
-// The four pairs of low bits in a byte, each at its pixel's place in a word of four pixels: the product has the byte at the bits 0, 14, 28 and 42, so that one
-// pair stands at each of the bits 0, 16, 32 and 48, and the mask keeps these.
+// The four pairs of low bits in a byte, each at its pixel's place in a word of four pixels: the product has the byte at
+// the bits 0, 14, 28 and 42, so that one pair stands at each of the bits 0, 16, 32 and 48, and the mask keeps these.
 fn spread_pairs(low: u8) -> u64
     ensures { λ r. ⌜ (r ≡ spreadPairs low) × (r < 2 ^ 50) ⌝ }
 {
@@ -21,7 +21,8 @@ fn spread_pairs(low: u8) -> u64
 // Four pixels from five bytes, gathered in a word and stored from `o` on.
 fn put_four(pixels: &mut [u16], o: usize, a: u8, b: u8, c: u8, d: u8, low: u8)
     requires { ⌜ o + 4 ≤ length (now pixels) ⌝ }
-    ensures { λ _. ⌜ now (pixels .exit) ≡ written (now (pixels .entry)) o (unpackGroup Raw10 (a ∷ b ∷ c ∷ d ∷ low ∷ [])) ⌝ }
+    ensures { λ _. ⌜ now (pixels .exit)
+        ≡ written (now (pixels .entry)) o (unpackGroup Raw10 (a ∷ b ∷ c ∷ d ∷ low ∷ [])) ⌝ }
 {
     let upper = (a as u64)
         + 0x10000 * (b as u64)

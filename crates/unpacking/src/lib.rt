@@ -2,10 +2,9 @@
 ghost use mathlib.Core.Path.{_≡_};
 ghost use Prim.Native.Nat.{_*_, _/_};
 ghost use lib.ListN.{length};
-ghost use Rattle.laws.specs.Reply.{given};
-ghost use Rattle.laws.specs.Buffers.{afterReply, countOf};
+ghost use Rattle.laws.specs.Buffers.{Writes};
 ghost use Rattle.packing.specs.Raw.{groupPixels, groupBytes};
-ghost use Rattle.unpacking.specs.Unpacking.{payloadAllowed, unpackWith, unpackReply, unpackAnswerReply};
+ghost use Rattle.unpacking.specs.Unpacking.{payloadAllowed, unpackReply, unpackAnswerReply};
 use formats::Format;
 use formats::FormatAnswer;
 
@@ -45,28 +44,25 @@ fn payload_allowed(format: Format, count: usize) -> bool
     }
 }
 
-// Unpacks a payload of a known format; or refuses it and writes nothing.
-fn unpack_known(format: Format, payload: &[u8], pixels: &mut [u16]) -> UnpackAnswer
-    ensures { λ r. ⌜ (unpackAnswerReply r ≡ countOf (unpackWith (given format) (now (payload .entry)) (length (now (pixels .entry))))) × (now (pixels .exit) ≡ afterReply (now (pixels .entry)) 0 (unpackWith (given format) (now (payload .entry)) (length (now (pixels .entry))))) ⌝ }
-{
-    let count = payload.len();
-    if !payload_allowed(format, count) {
-        return UnpackAnswer::PayloadNotAllowed;
-    }
-    let width = width_of(format, count);
-    if pixels.len() < width {
-        return UnpackAnswer::NoRoom;
-    }
-    groups::unpack(format, payload, pixels);
-    UnpackAnswer::Unpacked(width)
-}
-
 // Unpacks a payload whose pixels have `bits` bits, to the start of `pixels`; or refuses it and writes nothing.
-pub fn unpack_line(bits: u8, payload: &[u8], pixels: &mut [u16]) -> UnpackAnswer
-    ensures { λ r. ⌜ (unpackAnswerReply r ≡ countOf (unpackReply bits (now (payload .entry)) (length (now (pixels .entry))))) × (now (pixels .exit) ≡ afterReply (now (pixels .entry)) 0 (unpackReply bits (now (payload .entry)) (length (now (pixels .entry))))) ⌝ }
+pub fn unpack_pixels(bits: u8, payload: &[u8], pixels: &mut [u16]) -> UnpackAnswer
+    ensures { λ r. ⌜ Writes (now (pixels .entry)) 0
+        (unpackReply bits (now (payload .entry)) (length (now (pixels .entry))))
+        (unpackAnswerReply r) (now (pixels .exit)) ⌝ }
 {
     match formats::from_bits(bits) {
         FormatAnswer::Unknown => UnpackAnswer::UnknownFormat,
-        FormatAnswer::Known(format) => unpack_known(format, payload, pixels),
+        FormatAnswer::Known(format) => {
+            let count = payload.len();
+            if !payload_allowed(format, count) {
+                return UnpackAnswer::PayloadNotAllowed;
+            }
+            let width = width_of(format, count);
+            if pixels.len() < width {
+                return UnpackAnswer::NoRoom;
+            }
+            groups::unpack(format, payload, pixels);
+            UnpackAnswer::Unpacked(width)
+        }
     }
 }

@@ -1,38 +1,43 @@
-//! The commands `compare` and `compare-scripts`.
+//! The commands `compare`, `compare-scripts` and `cases`.
 
-use super::{number, program, Failure};
-use independent::comparison::{Found, Settings};
-use independent::{compare, compare_scripts};
+use super::{cannot_print, number, program, Failure};
+use independent::compare::cases;
+use independent::compare::comparison::{Comparison, Settings};
 use std::ffi::OsString;
 use std::io::Write;
 use std::path::PathBuf;
 
-pub fn players(player: &OsString, options: &[OsString]) -> Result<(), Failure> {
-    let (settings, show_tally) = settings(player, compare::DEFAULT_COUNT, options)?;
-    let findings = compare::compare(&settings).map_err(|error| {
-        Failure::Work(format!(
-            "{error}; give a program that takes a trace file as its only argument"
-        ))
+/// Compares a program with the model: the first difference with its files kept, or the last line.
+pub fn run(comparison: &Comparison, name: &OsString, options: &[OsString]) -> Result<(), Failure> {
+    let (settings, show_tally) = settings(name, options)?;
+    let found = comparison.run(&settings).map_err(|error| {
+        let wanted = comparison.program;
+        Failure::Work(format!("{error}; give {wanted}"))
     })?;
-    report(&findings, &settings, show_tally)
+    if let Some(difference) = found.difference {
+        let folder = settings.keep.display();
+        let kept = match difference.keep(&settings.keep, settings.seed) {
+            Ok(name) => format!("kept as {folder}/{name}.*"),
+            Err(error) => format!("not kept, cannot write to {folder}: {error}"),
+        };
+        return Err(Failure::Work(format!(
+            "difference with seed {}, {} {} ({}): {}; {kept}",
+            settings.seed, difference.noun, difference.number, difference.kind, difference.what
+        )));
+    }
+    let mut report = String::new();
+    if show_tally {
+        for point in comparison.points {
+            report += &format!("{:>9}  {point}\n", found.coverage.count(point));
+        }
+    }
+    report += &comparison.summary(&found).map_err(Failure::Work)?;
+    let _ = writeln!(std::io::stdout(), "{report}");
+    Ok(())
 }
 
-pub fn converters(converter: &OsString, options: &[OsString]) -> Result<(), Failure> {
-    let (settings, show_tally) = settings(converter, compare_scripts::DEFAULT_COUNT, options)?;
-    let findings = compare_scripts::compare(&settings).map_err(|error| {
-        Failure::Work(format!(
-            "{error}; give a program that takes 'trace ADDRESS SCRIPT OUT' and 'text TRACE'"
-        ))
-    })?;
-    report(&findings, &settings, show_tally)
-}
-
-fn settings(
-    name: &OsString,
-    count: u64,
-    options: &[OsString],
-) -> Result<(Settings, bool), Failure> {
-    let mut settings = Settings::new(program(name), count);
+fn settings(name: &OsString, options: &[OsString]) -> Result<(Settings, bool), Failure> {
+    let mut settings = Settings::new(program(name));
     let mut show_tally = false;
     let mut rest = options.iter();
     while let Some(option) = rest.next() {
@@ -57,26 +62,7 @@ fn settings(
     Ok((settings, show_tally))
 }
 
-/// The first difference with its files kept, or the last line.
-fn report<F: Found>(findings: &F, settings: &Settings, show_tally: bool) -> Result<(), Failure> {
-    if let Some(difference) = findings.difference() {
-        let folder = settings.keep.display();
-        let kept = match difference.keep(&settings.keep, settings.seed) {
-            Ok(name) => format!("kept as {folder}/{name}.*"),
-            Err(error) => format!("not kept, cannot write to {folder}: {error}"),
-        };
-        return Err(Failure::Work(format!(
-            "difference with seed {}, {} {} ({}): {}; {kept}",
-            settings.seed, difference.noun, difference.number, difference.kind, difference.what
-        )));
-    }
-    let mut report = String::new();
-    if show_tally {
-        for point in F::POINTS {
-            report += &format!("{:>9}  {point}\n", findings.counts().count(point));
-        }
-    }
-    report += &findings.summary().map_err(Failure::Work)?;
-    let _ = writeln!(std::io::stdout(), "{report}");
-    Ok(())
+pub fn print_cases() -> Result<(), Failure> {
+    let written = std::io::stdout().write_all(cases::report().as_bytes());
+    written.map_err(cannot_print)
 }

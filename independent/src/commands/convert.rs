@@ -2,7 +2,8 @@
 //! output, and what it means on standard error.
 
 use super::{cannot_print, cannot_write, Failure};
-use independent::convert::{to_text, to_trace, Refused, MOST_BYTES};
+use independent::generate::scripts::MOST_BYTES;
+use independent::model::convert::{to_text, to_trace, Refused};
 use std::ffi::OsString;
 use std::fs::File;
 use std::io::{self, Read, Write};
@@ -15,7 +16,7 @@ pub fn trace(address: &OsString, script: &Path, out: &Path) -> Result<(), Failur
     };
     match to_trace(address, &text) {
         Ok(trace) => std::fs::write(out, trace).map_err(|error| cannot_write(out, error)),
-        Err(refused) => tell(script, refused),
+        Err(refused) => print_refusal(script, refused),
     }
 }
 
@@ -25,7 +26,7 @@ pub fn text(trace: &Path) -> Result<(), Failure> {
     };
     match to_text(&bytes) {
         Ok(text) => io::stdout().write_all(&text).map_err(cannot_print),
-        Err(refused) => tell(trace, refused),
+        Err(refused) => print_refusal(trace, refused),
     }
 }
 
@@ -61,7 +62,7 @@ fn too_long(path: &Path) -> Result<(), Failure> {
     Ok(())
 }
 
-fn tell(path: &Path, refused: Refused) -> Result<(), Failure> {
+fn print_refusal(path: &Path, refused: Refused) -> Result<(), Failure> {
     let _ = writeln!(io::stderr(), "{} is refused", path.display());
     writeln!(io::stdout(), "{refused}").map_err(cannot_print)
 }

@@ -1,7 +1,10 @@
-//! What the commands share.
+//! The commands, and what they share.
 
+pub mod bench;
 pub mod compare;
 pub mod convert;
+pub mod generate;
+pub mod play;
 
 use std::ffi::OsString;
 use std::path::{Path, PathBuf};

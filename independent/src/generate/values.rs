@@ -1,10 +1,10 @@
 //! Values worth trying: ports, formats, widths, offsets, and register values by offset.
 
-use crate::registers::{
+use crate::generate::rng::Rng;
+use crate::model::registers::{
     BCC_CONFIG, FPD3_PORT_SEL, FWD_CTL1, MAX_FRM_HI, MAX_FRM_LO, RAW10_ID, RAW12_ID, SER_ALIAS_ID,
     SER_ID,
 };
-use crate::rng::Rng;
 
 pub const BAD_HUB_ADDRESSES: [u8; 6] = [0x00, 0x07, 0x78, 0x7F, 0x80, 0xFF];
 pub const BAD_PORTS: [u8; 6] = [4, 5, 7, 127, 128, 255];

@@ -1,9 +1,9 @@
 //! What the tests of the proved packing and of the proved unpacking share.
 
-use independent::frames::Format;
-use independent::proved;
-use independent::refusal::Refusal;
-use independent::rng::Rng;
+use independent::compare::proved;
+use independent::generate::rng::Rng;
+use independent::model::format::Format;
+use independent::model::refusal::Refusal;
 
 /// How often each number stood in the top byte of an answer: 0 for none refused.
 pub type Seen = [u64; 18];

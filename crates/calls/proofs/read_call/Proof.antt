@@ -1,7 +1,7 @@
--- `calls::read_call` meets its contract: one token behind the other.
+-- `calls::read_call` meets its contract: one token after the other.
 -- Assumes nothing.
-use Rattle.calls.specs.Contracts.{valueAt}
-use Rattle.calls.proofs.LineReads.{call-read}
+use mathlib.Core.Path.{sym}
+use Rattle.calls.specs.ScriptLines.{callRead}
 use borrow.Author.Needs.{needs}
 use Rattle.calls.proofs.read_call.Statement.{statement}
 use Rattle.calls.proofs.read_call.Tie as tie
@@ -28,13 +28,14 @@ call-if-ended-requires : tie.Need-call-if-ended-requires
 call-if-ended-requires c κs = search needs
 
 returns : tie.Need-returns
+unfolding callRead
 returns c =
     let closing = c .before in
     let value = closing .before .before in
     let comma = value .before in
     let offset = comma .before .before in
-    call-read (offset .before .before .args .line .now) (valueAt _ (offset .read-offset .result)) (valueAt _ (value .read-value .result))
-    (offset .read-offset .ensures) (comma .expect .ensures) (value .read-value .ensures) (closing .expect2 .ensures) (c .call-if-ended .ensures)
+    rw (sym (offset .read-offset .ensures), sym (comma .expect .ensures), sym (value .read-value .ensures), sym (closing .expect2 .ensures))
+    (c .call-if-ended .ensures)
 
 pub read-call-spec : {M : Type 1} → statement M
 read-call-spec =

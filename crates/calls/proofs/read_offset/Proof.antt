@@ -1,7 +1,6 @@
--- `calls::read_offset` meets its contract: one token behind the other.
+-- `calls::read_offset` meets its contract: one token after the other.
 -- Assumes nothing.
-use mathlib.Core.Path.{ap, _∙_}
-use Rattle.calls.specs.Lines.{behind, valueRead}
+use mathlib.Core.Path.{sym}
 use borrow.Author.Needs.{needs}
 use Rattle.calls.proofs.read_offset.Statement.{statement}
 use Rattle.calls.proofs.read_offset.Tie as tie
@@ -24,7 +23,7 @@ read-value-requires c κs = search needs
 returns : tie.Need-returns
 returns c =
     let opening = c .before in
-    c .read-value .ensures ∙ ap valueRead (opening .expect2 .ensures ∙ ap (behind _) (opening .before .before .expect .ensures))
+    rw (sym (opening .before .before .expect .ensures), sym (opening .expect2 .ensures)) (c .read-value .ensures)
 
 pub read-offset-spec : {M : Type 1} → statement M
 read-offset-spec =

@@ -5,11 +5,6 @@ use native.Mathlib.Omega.{arith}
 use Rattle.crc.specs.Checksum.{crcFrom}
 use Rattle.crc.proofs.Words.{word-next}
 use borrow.Author.Needs.{needs}
-use mathlib.Core.Path.{refl}
-use native.Mathlib.Omega.{arith}
-use Rattle.crc.specs.Checksum.{crcFrom}
-use Rattle.crc.proofs.Words.{word-next}
-use borrow.Author.Needs.{needs}
 use Rattle.crc.proofs.open.Statement.{statement}
 use Rattle.crc.proofs.open.Tie as tie
 

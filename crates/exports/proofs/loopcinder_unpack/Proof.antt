@@ -1,11 +1,12 @@
 -- `exports::loopcinder_unpack` meets its contract: the number of what `unpacking` answers, and its slice.
 -- Assumes nothing.
+use Rattle.exports.proofs.NumberLaws.{numbered}
 use borrow.Author.Needs.{needs}
 use Rattle.exports.proofs.loopcinder_unpack.Statement.{statement}
 use Rattle.exports.proofs.loopcinder_unpack.Tie as tie
 
-unpack-line-requires : tie.Need-unpack-line-requires
-unpack-line-requires c κs = search needs
+unpack-pixels-requires : tie.Need-unpack-pixels-requires
+unpack-pixels-requires c κs = search needs
 
 of-unpack-answer-requires : tie.Need-of-unpack-answer-requires
 of-unpack-answer-requires c κs = search needs
@@ -14,10 +15,8 @@ same-length : tie.Need-same-length
 same-length c = search needs
 
 returns : tie.Need-returns
-returns c =
-    let unpacked = c .before .before .before .unpack-line in
-    (rw (← unpacked .ensures .0) (c .of-unpack-answer .ensures), unpacked .ensures .1)
+returns c = numbered (c .before .before .before .unpack-pixels .ensures) (c .of-unpack-answer .ensures)
 
 pub loopcinder-unpack-spec : {M : Type 1} → statement M
 loopcinder-unpack-spec =
-    tie.close (tie.spec unpack-line-requires of-unpack-answer-requires same-length returns)
+    tie.close (tie.spec unpack-pixels-requires of-unpack-answer-requires same-length returns)

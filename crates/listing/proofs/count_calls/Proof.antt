@@ -1,66 +1,65 @@
--- `listing::count_calls` meets its contract. The loop's invariant: with the calls that are still to be counted, the count is the trace's.
+-- `listing::count_calls` meets its contract. The loop's invariant: the calls of the records passed are counted.
 -- Assumes nothing.
 use mathlib.Core.Path.{_≡_, refl, sym, ap, _∙_}
-use mathlib.Core.List.{List, [], _∷_}
-use Prim.Native.Nat.{ℕ, _+_, _-_, _≤_}
-use native.Mathlib.Nat.{add-zero}
+use mathlib.Core.List.{List, [], _∷_, _++_}
+use Prim.Native.Nat.{_+_, _-_, _≤_}
 use native.Mathlib.Omega.{arith}
 use lib.Dec.{eqb}
-use lib.ListN.{length}
+use lib.ListN.{length, length-drop, length-append}
 use types.Run.{miss}
 use borrow.Author.Needs.{needs}
-use Rattle.laws.specs.Reply.{Reply, given, onReply}
-use Rattle.trace.specs.Records.{recordOf, recordLength}
-use Rattle.calls.specs.Calls.{Call}
-use Rattle.listing.specs.Listing.{recordCalls, traceCalls}
-use Rattle.listing.specs.Contracts.{countReply, countedCalls}
-use Rattle.listing.proofs.TraceLaws.{callsFrom, record-next, all-passed, empty-trace, record-inside}
-use Rattle.listing.proofs.CountLaws.{totalOf, nothing-counted, counted-some, count-stops, count-goes-on}
+use Rattle.laws.specs.Reply.{given}
+use Rattle.laws.proofs.Replies.{on-given, on-refused}
+use Rattle.registers.specs.Bursts.{RegisterWrite}
+use Rattle.trace.specs.Framing.{recordLength}
+use Rattle.trace.specs.Records.{recordOf}
+use Rattle.trace.proofs.RecordLaws.{some-bytes}
+use Rattle.listing.specs.Listing.{recordCalls}
+use Rattle.listing.specs.Contracts.{countReply}
+use Rattle.listing.proofs.RecordLaws.{few-calls, calls-whole}
+use Rattle.listing.proofs.TraceLaws.{empty-trace, Passed, passed-none, passed-refused, passed-more, passed-all}
+use Rattle.listing.proofs.AnswerLaws.{count-refused}
 use Rattle.listing.proofs.count_calls.Statement.{statement}
 use Rattle.listing.proofs.count_calls.Tie as tie
 
 abbrev Inv-loop : tie.InvT-loop
 Inv-loop trace from₀ total₀ from total =
-    (from ≤ length trace) × (total ≤ from) × (totalOf total (callsFrom trace from) ≡ onReply length (traceCalls trace))
+    (from ≤ length trace) × (total ≤ from) × ((done : List RegisterWrite) × (total ≡ length done) × Passed trace from done)
 
 abbrev μ-loop : tie.MeasureT-loop
 μ-loop trace from₀ total₀ from total = length trace - from
 
--- where a record was counted: the place, what was left there, the count, and the record's calls
-abbrev from-at : tie.After-known-told Inv-loop μ-loop → ℕ
-from-at c = c .before .before .before .before .before .before .loop .from
+-- the calls of a record that was counted
+calls-at : (c : tie.After-known-told Inv-loop μ-loop) →
+    let start = c .before .before .before .before in
+    (here : List RegisterWrite) × (recordCalls (recordOf (eqb (start .before .before .loop .from) 0) (start .bytes-from .result .now)) ≡ given here)
+    × (c .before .counted .given .0 .0 ≡ length here)
+calls-at c = on-given length _ (sym (ap countReply (c .before .counted .given .1)) ∙ c .before .before .before .record-calls .ensures)
 
-abbrev left-at : tie.After-known-told Inv-loop μ-loop → List ℕ
-left-at c = c .before .before .before .before .left-of .result .now
-
-abbrev count-at : tie.After-known-told Inv-loop μ-loop → ℕ
-count-at c = c .before .counted .given .0 .0
-
-abbrev here-at : tie.After-known-told Inv-loop μ-loop → Reply (List Call)
-here-at c = recordCalls (recordOf (eqb (from-at c) 0) (left-at c))
-
--- the record has that many calls
-counts : (c : tie.After-known-told Inv-loop μ-loop) → given (count-at c) ≡ onReply length (here-at c)
-counts c = sym (ap countReply (c .before .counted .given .1)) ∙ c .before .before .before .record-calls .ensures .0
-
--- it has fewer calls than bytes, and lies inside the trace
-inside : (c : tie.After-known-told Inv-loop μ-loop)
-    → (count-at c ≤ recordLength (left-at c))
-    × (from-at c + recordLength (left-at c) ≤ length (c .before .before .before .before .before .before .before .before .before .args .trace .now))
+-- they are no more than its bytes, and it lies inside the trace
+inside : (c : tie.After-known-told Inv-loop μ-loop) →
+    let start = c .before .before .before .before in
+    let from = start .before .before .loop .from in
+    let left = start .bytes-from .result .now in
+    (c .before .counted .given .0 .0 ≤ recordLength left) × (from + recordLength left ≤ length (start .before .before .before .before .before .args .trace .now))
 inside c =
     let start = c .before .before .before .before in
-    let same = ap countedCalls (c .before .counted .given .1) in
-    let few = c .before .before .before .record-calls .ensures .1 in
-    (omega arith, record-inside _ (from-at c) (start .left-of .ensures) (start .before .before .loop .inv .0) (counted-some (count-at c) (here-at c) (counts c)))
+    let l = start .before .before .loop in
+    let calls = calls-at c in
+    let few = few-calls (eqb (l .from) 0) (start .bytes-from .result .now) (calls .1) in
+    let whole = calls-whole (eqb (l .from) 0) (start .bytes-from .result .now) (calls .1) in
+    let size = ap length (start .bytes-from .ensures) ∙ length-drop (l .from) _ in
+    let same = calls .2 in
+    (omega arith, omega arith)
 
 returns : tie.Need-returns Inv-loop μ-loop
-returns c = sym (ap (onReply length) (empty-trace (c .before .before .args .trace .now) (c .if1 .taken)))
+returns c = rw (empty-trace (c .before .before .args .trace .now) (c .if1 .taken))
 
 loop-holds : tie.Need-loop-holds Inv-loop μ-loop
-loop-holds c = (omega arith, omega arith, nothing-counted (traceCalls (c .before .before .args .trace .now)))
+loop-holds c = (omega arith, omega arith, ([], refl, passed-none _))
 
-left-of-requires : tie.Need-left-of-requires Inv-loop μ-loop
-left-of-requires c κs = c .before .loop .inv .0
+bytes-from-requires : tie.Need-bytes-from-requires Inv-loop μ-loop
+bytes-from-requires c κs = search needs
 
 record-calls-requires : tie.Need-record-calls-requires Inv-loop μ-loop
 record-calls-requires c κs = search needs
@@ -70,49 +69,42 @@ enum-known-counted c = search needs
 
 returns-2 : tie.Need-returns-2 Inv-loop μ-loop
 returns-2 c =
-    let counted = c .before .record-calls in
     let start = c .before .before in
-    let l = start .before .before .loop in
-    let x = start .before .before .before .before .before .args in
-    let left = start .left-of .result .now in
-    count-stops (l .total) (recordCalls (recordOf (eqb (l .from) 0) left)) (callsFrom (x .trace .now) (l .from + recordLength left)) (counted .result)
-    (λ n e. miss (0 ∷ 1 ∷ 2 ∷ []) 3 tt (rw e at (c .match .keys2)))
-    (counted .ensures .0)
-    ∙ ap (totalOf (l .total)) (sym (record-next (x .trace .now) (l .from) (start .left-of .ensures) (recordLength left) refl (omega arith)))
-    ∙ l .inv .2
+    let counted = c .before .record-calls in
+    let wrong = count-refused (counted .result) (λ n e. miss (0 ∷ 1 ∷ 2 ∷ []) 3 tt (rw e at (c .match .keys2))) in
+    let refusal = on-refused length _ (sym (wrong .1) ∙ counted .ensures) in
+    rw (passed-refused (start .before .before .loop .inv .2 .2) _ (start .bytes-from .ensures) (start .before .loop-test .taken) refusal) (wrong .1)
 
 add-total : tie.Need-add-total Inv-loop μ-loop
-add-total c = let w = inside c in omega arith
+add-total c = omega (arith, inside c)
 
 record-length-requires : tie.Need-record-length-requires Inv-loop μ-loop
 record-length-requires c κs = search needs
 
 add-from : tie.Need-add-from Inv-loop μ-loop
-add-from c = let w = inside (c .before) in omega arith
+add-from c = omega (arith, inside (c .before))
 
 loop-less : tie.Need-loop-less Inv-loop μ-loop
-loop-less c = let w = inside (c .before) in omega arith
+loop-less c = omega (arith, some-bytes (c .before .before .before .before .before .bytes-from .result .now))
 
 loop-again : tie.Need-loop-again Inv-loop μ-loop
 loop-again c =
-    let w = inside (c .before) in
-    let start = c .before .before .before .before .before in
+    let told = c .before in
+    let start = told .before .before .before .before in
     let l = start .before .before .loop in
-    let trace = start .before .before .before .before .before .args .trace .now in (
+    let done = l .inv .2 in
+    let here = calls-at told in
+    let within = inside told in
+    let more = passed-more (done .2) _ (start .bytes-from .ensures) (start .before .loop-test .taken) (here .1) in (
       omega arith,
       omega arith,
-      sym (count-goes-on (l .total) (count-at (c .before)) (here-at (c .before)) (callsFrom trace (l .from + c .record-length .result)) (counts (c .before)))
-          ∙ ap (totalOf (l .total)) (sym (record-next trace (l .from) (start .left-of .ensures) (c .record-length .result) (c .record-length .ensures) (omega arith)))
-          ∙ l .inv .2,
+      (done .0 ++ here .0, omega (arith, length-append (done .0) (here .0), done .1, here .2), rw (c .record-length .ensures) more),
     )
 
 returns-3 : tie.Need-returns-3 Inv-loop μ-loop
 returns-3 c =
-    let l = c .before .loop in
-    let x = c .before .before .before .before .args in
-    ap given (sym (add-zero (l .total)))
-    ∙ ap (totalOf (l .total)) (sym (all-passed (x .trace .now) (l .from) (omega arith) (c .before .before .if1 .left)))
-    ∙ l .inv .2
+    let done = c .before .loop .inv .2 in
+    rw (passed-all (done .2) (omega arith) (c .before .before .if1 .left), done .1)
 
 pub count-calls-spec : {M : Type 1} → statement M
 count-calls-spec =
@@ -122,7 +114,7 @@ count-calls-spec =
     μ-loop
     returns
     loop-holds
-    left-of-requires
+    bytes-from-requires
     record-calls-requires
     enum-known-counted
     returns-2

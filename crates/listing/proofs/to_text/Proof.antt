@@ -1,24 +1,12 @@
--- `listing::to_text` meets its contract: what the caller is told, and the text where there is one.
+-- `listing::to_text` meets its contract: an answer by the count, and the text that it speaks of is put.
 -- Assumes nothing.
-use borrow.Author.Needs.{needs}
-use mathlib.Core.Path.{_≡_}
 use mathlib.Core.List.{[], _∷_}
-use lib.ListN.{length}
 use types.Run.{miss}
-use Rattle.laws.specs.Buffers.{countOf}
+use borrow.Author.Needs.{needs}
 use Rattle.listing.specs.Listing.{traceCalls, traceText}
-use Rattle.listing.specs.Answers.{textReply}
-use Rattle.listing.proofs.RoomLaws.{told, no-text, some-text}
+use Rattle.listing.proofs.AnswerLaws.{no-text, text-put}
 use Rattle.listing.proofs.to_text.Statement.{statement}
 use Rattle.listing.proofs.to_text.Tie as tie
-
--- what the caller is told
-told-at : (c : tie.After-answer-of)
-    → let x = c .before .before .before .before .args in textReply (c .answer-of .result) ≡ countOf (traceText (x .trace .now) (length (x .out .now)))
-unfolding traceText
-told-at c =
-    let x = c .before .before .before .before .args in
-    told (length (x .out .now)) 0 (traceCalls (x .trace .now)) (c .answer-of .ensures) (c .before .count-calls .ensures)
 
 count-calls-requires : tie.Need-count-calls-requires
 count-calls-requires c κs = search needs
@@ -30,25 +18,28 @@ enum-told : tie.Need-enum-told
 enum-told c = search needs
 
 returns : tie.Need-returns
+unfolding traceText
 returns c =
-    let x = c .before .before .before .before .before .args in (
-      told-at (c .before),
-      no-text (x .out .now) 0 (traceText (x .trace .now) (length (x .out .now))) (c .before .answer-of .result) (λ n e. miss (0 ∷ 1 ∷ 2 ∷ 3 ∷ []) 4 tt (rw e at (c .match .keys2))) (told-at (c .before)),
-    )
+    let a = c .before in
+    let x = a .before .before .before .before .args in
+    no-text (x .out .now) 0 (traceCalls (x .trace .now)) (a .before .count-calls .ensures)
+    (a .answer-of .result) (a .answer-of .ensures) (λ n e. miss (0 ∷ 1 ∷ 2 ∷ 3 ∷ []) 4 tt (rw e at (c .match .keys2)))
 
 put-records-requires : tie.Need-put-records-requires
-put-records-requires c κs =
-    let text = c .before in
-    let x = text .before .before .before .before .before .before .args in
-    some-text (text .enum-told .given .0 .0) (traceText (x .trace .now) (length (x .out .now))) (text .enum-told .given .1) (told-at (text .before .before))
+put-records-requires c κs = search needs
 
 same-length : tie.Need-same-length
 same-length c = search needs
 
 returns-2 : tie.Need-returns-2
+unfolding traceText
 returns-2 c =
     let put = c .before .before in
-    (told-at (put .before .before .before .before), put .put-records .ensures)
+    let t = put .before .before in
+    let a = t .before .before in
+    let x = a .before .before .before .before .args in
+    text-put (x .out .now) 0 (traceCalls (x .trace .now)) (a .before .count-calls .ensures)
+    (a .answer-of .result) (a .answer-of .ensures) (t .enum-told .given .1) (put .put-records .ensures)
 
 pub to-text-spec : {M : Type 1} → statement M
 to-text-spec =

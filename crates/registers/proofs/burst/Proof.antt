@@ -1,20 +1,22 @@
--- `registers::burst` meets its contract. The loop's invariant: the rest of the burst, from here, ends as the whole burst does.
+-- `registers::burst` meets its contract. The loop's invariant: the rest of the burst ends as the whole burst does.
 -- Assumes nothing.
-use mathlib.Core.Path.{_≡_, refl, sym, _∙_}
+use mathlib.Core.Path.{_≡_, refl}
 use Prim.Native.Nat.{_-_, _≤_}
-use lib.ListN.{length, drop}
-use Rattle.registers.specs.RegisterFiles.{writeBurst}
-use Rattle.registers.proofs.RegisterFiles.{burst-byte, burst-end}
+use native.Mathlib.Numerals.{add-one}
+use lib.ListN.{length, drop, drop-of-length-le}
+use lib.Seq.{drop-cons}
+use Rattle.registers.specs.Bursts.{burstWrites, writeEach, writeBurst}
 use borrow.Author.Needs.{needs}
 use native.Mathlib.Omega.{arith}
 use Rattle.registers.proofs.burst.Statement.{statement}
 use Rattle.registers.proofs.burst.Tie as tie
 
 abbrev Inv-loop : tie.InvT-loop
-Inv-loop offset values next₀ at₀ i₀ next at i = (i ≤ length values) × (writeBurst next at (drop i values) ≡ writeBurst next₀ offset values)
+Inv-loop access offset values next₀ at₀ i₀ next at i =
+    (i ≤ length values) × (writeBurst access next at (drop i values) ≡ writeBurst access next₀ offset values)
 
 abbrev μ-loop : tie.MeasureT-loop
-μ-loop offset values next₀ at₀ i₀ next at i = length values - i
+μ-loop access offset values next₀ at₀ i₀ next at i = length values - i
 
 loop-holds : tie.Need-loop-holds Inv-loop μ-loop
 loop-holds c = (omega arith, refl)
@@ -35,14 +37,21 @@ loop-less : tie.Need-loop-less Inv-loop μ-loop
 loop-less c = search needs
 
 loop-again : tie.Need-loop-again Inv-loop μ-loop
+unfolding writeBurst writeEach burstWrites
 loop-again c =
-    let l = c .before .before .before .before .loop in (
+    let head = c .before .before .before .before in
+    let l = head .loop in (
       omega arith,
-      rw (c .next-offset .ensures, c .before .write .ensures) (sym (burst-byte _ _ _ (l .i) (omega arith)) ∙ l .inv .1),
+      rw (c .next-offset .ensures, c .before .write .ensures, add-one (l .i))
+          (rw (drop-cons (head .before .before .args .values .now) (l .i) 0 (omega arith)) at (l .inv .1)),
     )
 
 returns : tie.Need-returns Inv-loop μ-loop
-returns c = let l = c .before .loop in sym (burst-end _ _ _ (l .i) (omega arith)) ∙ l .inv .1
+unfolding writeBurst writeEach burstWrites
+returns c =
+    let head = c .before in
+    rw (drop-of-length-le (head .before .before .args .values .now) {i = head .loop .i} (omega arith))
+    at (head .loop .inv .1)
 
 pub burst-spec : {M : Type 1} → statement M
 burst-spec =

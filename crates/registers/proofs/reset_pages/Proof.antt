@@ -34,7 +34,8 @@ loop-less : tie.Need-loop-less Inv-loop μ-loop
 loop-less c = omega arith
 
 loop-again : tie.Need-loop-again Inv-loop μ-loop
-loop-again c = filled-more pageResetAt 1024 _ _ _ (omega arith) (c .page-reset .ensures) (c .before .before .before .loop .inv)
+loop-again c =
+    filled-more pageResetAt 1024 _ _ _ (omega arith) (c .page-reset .ensures) (c .before .before .before .loop .inv)
 
 returns : tie.Need-returns Inv-loop μ-loop
 returns c = filled-all pageResetAt 1024 _ _ (omega arith) (c .before .loop .inv)

@@ -13,13 +13,17 @@ write-ports-requires : tie.Need-write-ports-requires
 write-ports-requires c κs = search needs
 
 returns : tie.Need-returns
-returns c = c .write-ports .ensures ∙ sym (write-paged _ _ _ (sym (c .before .before .is-per-port .ensures) ∙ c .before .if1 .taken))
+returns c =
+    let paged = sym (c .before .before .is-per-port .ensures) ∙ c .before .if1 .taken in
+    c .write-ports .ensures ∙ sym (write-paged _ _ _ _ paged)
 
 write-shared-requires : tie.Need-write-shared-requires
 write-shared-requires c κs = search needs
 
 returns-2 : tie.Need-returns-2
-returns-2 c = c .write-shared .ensures ∙ sym (write-unpaged _ _ _ (sym (c .before .before .is-per-port .ensures) ∙ c .before .if1 .left))
+returns-2 c =
+    let unpaged = sym (c .before .before .is-per-port .ensures) ∙ c .before .if1 .left in
+    c .write-shared .ensures ∙ sym (write-unpaged _ _ _ _ unpaged)
 
 pub write-spec : {M : Type 1} → statement M
 write-spec =

@@ -1,20 +1,21 @@
 -- `registers::write_ports` meets its contract. The loop's invariant: the ports below `port` are done.
 -- Assumes nothing.
-use mathlib.Core.Path.{_≡_, sym, _∙_}
+use mathlib.Core.Path.{_≡_, refl, sym, _∙_}
 use mathlib.Core.Logic.{⊎-elim}
 use Prim.Native.Nat.{_-_, _≤_}
-use Rattle.registers.specs.RegisterFiles.{writePorts}
-use Rattle.registers.proofs.RegisterFiles.{write-none, write-one, write-disabled}
+use native.Mathlib.Numerals.{add-one}
+use Rattle.registers.specs.RegisterFiles.{writePage, writePorts}
 use borrow.Author.Needs.{needs}
 use native.Mathlib.Omega.{arith}
 use Rattle.registers.proofs.write_ports.Statement.{statement}
 use Rattle.registers.proofs.write_ports.Tie as tie
 
 abbrev Inv-loop : tie.InvT-loop
-Inv-loop offset value selection mask next₀ port₀ next port = (port ≤ 4) × (next ≡ writePorts port next₀ offset value)
+Inv-loop access offset value selection mask next₀ port₀ next port =
+    (port ≤ 4) × (next ≡ writePorts port access next₀ offset value)
 
 abbrev μ-loop : tie.MeasureT-loop
-μ-loop offset value selection mask next₀ port₀ next port = 4 - port
+μ-loop access offset value selection mask next₀ port₀ next port = 4 - port
 
 element-copy-out-selection : tie.Need-element-copy-out-selection Inv-loop μ-loop
 element-copy-out-selection c = search needs
@@ -23,10 +24,11 @@ write-mask-requires : tie.Need-write-mask-requires Inv-loop μ-loop
 write-mask-requires c κs = search needs
 
 loop-holds : tie.Need-loop-holds Inv-loop μ-loop
-loop-holds c = (omega arith, sym (write-none _ _ _))
+unfolding writePorts
+loop-holds c = (omega arith, refl)
 
-is-set-requires : tie.Need-is-set-requires Inv-loop μ-loop
-is-set-requires c κs = search needs
+writes-port-requires : tie.Need-writes-port-requires Inv-loop μ-loop
+writes-port-requires c κs = search needs
 
 cast-at : tie.Need-cast-at Inv-loop μ-loop
 cast-at c = search needs
@@ -53,14 +55,15 @@ loop-less : tie.Need-loop-less Inv-loop μ-loop
 loop-less c = search needs
 
 loop-again : tie.Need-loop-again Inv-loop μ-loop
+unfolding writePorts writePage
 loop-again c =
     let l = c .before .before .before .loop in
-    let enabled = c .before .is-set .ensures in
+    let written = sym (c .before .writes-port .ensures) in
     let mask = c .before .before .before .before .write-mask .ensures in (
       omega arith,
       ⊎-elim
-          (λ w. w .3 ∙ write-one _ _ _ (l .next) (l .port) _ (w .2 .result) (sym enabled ∙ w .0 .taken) (l .inv .1) mask (w .2 .ensures))
-          (λ w. w .1 ∙ l .inv .1 ∙ sym (write-disabled _ _ _ (l .port) (sym enabled ∙ w .0 .left)))
+          (λ w. w .3 ∙ rw (add-one (l .port), written ∙ w .0 .taken, ← l .inv .1, w .2 .ensures, mask))
+          (λ w. w .1 ∙ l .inv .1 ∙ rw (add-one (l .port), written ∙ w .0 .left))
           (c .if1 .came),
     )
 
@@ -79,7 +82,7 @@ write-ports-spec =
     element-copy-out-selection
     write-mask-requires
     loop-holds
-    is-set-requires
+    writes-port-requires
     cast-at
     mul-at
     add-at

@@ -1,4 +1,5 @@
-// The reset value of each of the 256 offsets. RAW10_ID and RAW12_ID are port 0's: each port adds its own number in bits 7 and 6.
+// The reset value of each of the 256 offsets. RAW10_ID and RAW12_ID are port 0's: each port adds its own number in bits
+// 7 and 6.
 ghost use mathlib.Core.Path.{_≡_};
 ghost use Rattle.laws.specs.Tables.{tabulate};
 ghost use Rattle.registers.specs.RegisterMap.{resetOf};

@@ -1,16 +1,36 @@
 -- `script::read_text` meets its contract, by what counting the calls came to.
 -- Assumes nothing.
-use mathlib.Core.Path.{_≡_, sym, _∙_}
-use mathlib.Core.Bool.{true}
-use Prim.Native.Nat.{_+_, _*_}
-use native.Mathlib.Omega.{arith}
-use borrow.Author.Tests.{not-true, not-false, leb-true}
-use lib.Dec.{leb}
-use lib.ListN.{length}
-use Rattle.script.proofs.TraceReplies.{line-refused, no-room, has-room, trace-there}
+use mathlib.Core.Path.{_≡_, refl, sym, _∙_}
+use mathlib.Core.List.{List}
+use Prim.Native.Nat.{_+_}
+use native.Mathlib.Nat.{zero-add}
 use borrow.Author.Needs.{needs}
+use borrow.Author.Tests.{not-true, not-false, leb-true}
+use lib.ListN.{length}
+use Rattle.laws.specs.Reply.{given}
+use Rattle.laws.specs.Buffers.{hasRoom}
+use Rattle.laws.proofs.Buffers.{refusal, writing}
+use Rattle.laws.proofs.Replies.{room-by}
+use Rattle.laws.proofs.Replies.{on-given, on-refused}
+use Rattle.buffers.proofs.PutLaws.{whole-buffer, whole-place}
+use Rattle.registers.specs.Bursts.{RegisterWrite}
+use Rattle.script.specs.Traces.{traceOf}
+use Rattle.script.specs.Reading.{scriptCalls}
+use Rattle.script.proofs.TraceLaws.{trace-room}
 use Rattle.script.proofs.read_text.Statement.{statement}
 use Rattle.script.proofs.read_text.Tie as tie
+
+-- the calls that were counted, and whether their trace has room
+counted : (c : tie.After-has-room-for) →
+    let x = c .before .before .before .before .before .before .before .args in
+    (calls : List RegisterWrite) × (scriptCalls (x .text .now) ≡ given calls)
+    × (hasRoom (length (x .out .now)) 0 (length (traceOf (x .address) calls)) ≡ c .has-room-for .result)
+counted c =
+    let k = c .before .before in
+    let n = k .before .before in
+    let x = n .before .before .before .args in
+    let found = on-given length (scriptCalls (x .text .now)) (rw (k .count .given .1) at (n .count-calls .ensures)) in
+    (found .0, found .1, trace-room (x .address) (length (x .out .now)) (found .0) ∙ rw (sym (found .2)) (sym (c .has-room-for .ensures)))
 
 count-calls-requires : tie.Need-count-calls-requires
 count-calls-requires c κs = search needs
@@ -24,53 +44,33 @@ enum-known-line-2 c = search needs
 enum-known-count : tie.Need-enum-known-count
 enum-known-count c = search needs
 
-has-trace-room-requires : tie.Need-has-trace-room-requires
-has-trace-room-requires c κs = search needs
+has-room-for-requires : tie.Need-has-room-for-requires
+has-room-for-requires c κs = search needs
 
 returns : tie.Need-returns
 returns c =
     let r = c .before in
-    let k = r .before .before in
-    let n = k .before .before in
-    let x = n .before .before .before .args in
-    no-room (x .address) (x .text .now) (x .out .now) (k .count .given .0 .0) (rw (k .count .given .1) at (n .count-calls .ensures))
-    (sym (r .has-trace-room .ensures) ∙ not-true (r .has-trace-room .result) (c .if1 .taken))
-
--- behind the test there is room
-enough : (e : tie.Else1) → leb (5 + 6 * e .before .before .before .count .given .0 .0) (length (e .before .before .before .before .before .before .before .before .args .out .now)) ≡ true
-enough e = sym (e .before .has-trace-room .ensures) ∙ not-false (e .before .has-trace-room .result) (e .if1 .left)
+    let x = r .before .before .before .before .before .before .before .args in
+    let found = counted r in
+    let none = found .2 ∙ not-true (r .has-room-for .result) (c .if1 .taken) in
+    rw (found .1) (refusal (x .out .now) 0 8 (room-by (length (x .out .now)) 0 (traceOf (x .address) (found .0)) _ refl none))
 
 put-trace-requires : tie.Need-put-trace-requires
-put-trace-requires c κs =
-    let e = c .before in
-    let k = e .before .before .before in
-    let n = k .before .before in
-    let x = n .before .before .before .args in
-    has-room (x .address) (x .text .now) (x .out .now) (k .count .given .0 .0) (rw (k .count .given .1) at (n .count-calls .ensures)) (enough e)
-
-mul-t10 : tie.Need-mul-t10
-mul-t10 c =
-    let e = c .before .before .before .before in
-    omega (arith, leb-true (5 + 6 * e .before .before .before .count .given .0 .0) (length (e .before .before .before .before .before .before .before .before .args .out .now)) (enough e))
-
-add-t15 : tie.Need-add-t15
-add-t15 c =
-    let e = c .before .before .before .before in
-    omega (arith, leb-true (5 + 6 * e .before .before .before .count .given .0 .0) (length (e .before .before .before .before .before .before .before .before .args .out .now)) (enough e))
+put-trace-requires c κs = search needs
 
 returns-2 : tie.Need-returns-2
 returns-2 c =
     let k = c .before in
     let n = k .before .before in
-    let x = n .before .before .before .args in
-    line-refused (x .address) (x .text .now) (x .out .now) 15 (k .line .given .0 .0) (rw (k .line .given .1) at (n .count-calls .ensures))
+    let text = n .before .before .before .args .text .now in
+    rw (on-refused length (scriptCalls text) (rw (k .line .given .1) at (n .count-calls .ensures))) (record { answer = refl; buffer = refl })
 
 returns-3 : tie.Need-returns-3
 returns-3 c =
     let k = c .before in
     let n = k .before .before in
-    let x = n .before .before .before .args in
-    line-refused (x .address) (x .text .now) (x .out .now) 14 (k .line2 .given .0 .0) (rw (k .line2 .given .1) at (n .count-calls .ensures))
+    let text = n .before .before .before .args .text .now in
+    rw (on-refused length (scriptCalls text) (rw (k .line2 .given .1) at (n .count-calls .ensures))) (record { answer = refl; buffer = refl })
 
 same-length : tie.Need-same-length
 same-length c = search needs
@@ -79,11 +79,16 @@ returns-4 : tie.Need-returns-4
 returns-4 c =
     let put = c .before .before in
     let e = put .before .before in
-    let k = e .before .before .before in
-    let n = k .before .before in
-    let x = n .before .before .before .args in
-    trace-there (x .address) (x .text .now) (x .out .now) (k .count .given .0 .0) (rw (k .count .given .1) at (n .count-calls .ensures)) (enough e)
-    (put .put-trace .ensures)
+    let r = e .before in
+    let x = r .before .before .before .before .before .before .before .args in
+    let found = counted r in
+    let trace = traceOf (x .address) (found .0) in
+    let enough = found .2 ∙ not-false (r .has-room-for .result) (e .if1 .left) in
+    let inside = leb-true (0 + length trace) (length (x .out .now)) enough in
+    let puts = put .put-trace .ensures (found .0) (found .1) in
+    rw (found .1)
+    (writing (x .out .now) 0 (put .put-trace .result) trace (room-by (length (x .out .now)) 0 trace _ refl enough)
+    (whole-place puts inside ∙ zero-add (length trace)) (whole-buffer puts inside))
 
 pub read-text-spec : {M : Type 1} → statement M
 read-text-spec =
@@ -93,11 +98,9 @@ read-text-spec =
     enum-known-line
     enum-known-line-2
     enum-known-count
-    has-trace-room-requires
+    has-room-for-requires
     returns
     put-trace-requires
-    mul-t10
-    add-t15
     returns-2
     returns-3
     same-length

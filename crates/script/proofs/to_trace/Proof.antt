@@ -1,28 +1,23 @@
 -- `script::to_trace` meets its contract, by whether the address may be a hub's.
 -- Assumes nothing.
 use mathlib.Core.Path.{refl, sym}
-use Rattle.script.specs.Reading.{scriptTrace}
 use borrow.Author.Needs.{needs}
+use borrow.Author.Tests.{not-true, not-false}
+use Rattle.script.specs.Reading.{scriptTrace}
 use Rattle.script.proofs.to_trace.Statement.{statement}
 use Rattle.script.proofs.to_trace.Tie as tie
 
-new-requires : tie.Need-new-requires
-new-requires c κs = search needs
-
-enum-told : tie.Need-enum-told
-enum-told c = search needs
-
-enum-told-2 : tie.Need-enum-told-2
-enum-told-2 c = search needs
-
-read-text-requires : tie.Need-read-text-requires
-read-text-requires c κs = search needs
+is-hub-address-requires : tie.Need-is-hub-address-requires
+is-hub-address-requires c κs = search needs
 
 returns : tie.Need-returns
 unfolding scriptTrace
 returns c =
-    let n = c .before .before in
-    rw (sym (n .new .ensures .0), c .enum-told .given .1) (refl, refl)
+    let a = c .before .is-hub-address in
+    rw (sym (a .ensures), not-true (a .result) (c .if1 .taken)) (record { answer = refl; buffer = refl })
+
+read-text-requires : tie.Need-read-text-requires
+read-text-requires c κs = search needs
 
 same-length : tie.Need-same-length
 same-length c = search needs
@@ -31,10 +26,10 @@ returns-2 : tie.Need-returns-2
 unfolding scriptTrace
 returns-2 c =
     let r = c .before .before in
-    let t = r .before .before in
-    rw (sym (t .before .before .new .ensures .0), t .enum-told2 .given .1) (r .read-text .ensures)
+    let e = r .before .before in
+    let a = e .before .is-hub-address in
+    rw (sym (a .ensures), not-false (a .result) (e .if1 .left)) (r .read-text .ensures)
 
 pub to-trace-spec : {M : Type 1} → statement M
 to-trace-spec =
-    tie.close
-    (tie.spec new-requires enum-told enum-told-2 read-text-requires returns same-length returns-2)
+    tie.close (tie.spec is-hub-address-requires returns read-text-requires same-length returns-2)

@@ -2,7 +2,7 @@
 -- Assumes nothing.
 use mathlib.Core.Path.{sym, _∙_}
 use borrow.Author.Tests.{not-true, not-false}
-use Rattle.translation.proofs.TranslationLaws.{port-off, port-serializer, port-target}
+use Rattle.translation.specs.Translation.{onPort}
 use borrow.Author.Needs.{needs}
 use Rattle.translation.proofs.on_port.Statement.{statement}
 use Rattle.translation.proofs.on_port.Tie as tie
@@ -20,7 +20,8 @@ is-set-requires : tie.Need-is-set-requires
 is-set-requires c κs = search needs
 
 returns : tie.Need-returns
-returns c = sym (port-off _ _ _ (sym (c .before .is-set .ensures) ∙ not-true _ (c .if1 .taken)))
+unfolding onPort
+returns c = rw (sym (c .before .is-set .ensures) ∙ not-true _ (c .if1 .taken))
 
 add-is-alias : tie.Need-add-is-alias
 add-is-alias c = search needs
@@ -38,18 +39,21 @@ element-copy-out-t17 : tie.Need-element-copy-out-t17
 element-copy-out-t17 c = search needs
 
 returns-2 : tie.Need-returns-2
+unfolding onPort
 returns-2 c =
     let b = c .before .before in
-    sym (port-serializer _ _ _ (sym (b .before .before .before .is-set .ensures) ∙ not-false _ (b .before .before .if1 .left)) (sym (b .is-alias .ensures) ∙ c .before .if2 .taken))
+    let pass = sym (b .before .before .before .is-set .ensures) ∙ not-false _ (b .before .before .if1 .left) in
+    rw (pass, sym (b .is-alias .ensures) ∙ c .before .if2 .taken)
 
 target-on-requires : tie.Need-target-on-requires
 target-on-requires c κs = search needs
 
 returns-3 : tie.Need-returns-3
+unfolding onPort
 returns-3 c =
     let b = c .before .before in
-    c .target-on .ensures
-    ∙ sym (port-target _ _ _ (sym (b .before .before .before .is-set .ensures) ∙ not-false _ (b .before .before .if1 .left)) (sym (b .is-alias .ensures) ∙ c .before .if2 .left))
+    let pass = sym (b .before .before .before .is-set .ensures) ∙ not-false _ (b .before .before .if1 .left) in
+    c .target-on .ensures ∙ rw (pass, sym (b .is-alias .ensures) ∙ c .before .if2 .left)
 
 pub on-port-spec : {M : Type 1} → statement M
 on-port-spec =

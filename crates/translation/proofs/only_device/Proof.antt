@@ -7,9 +7,6 @@ use Rattle.translation.proofs.only_device.Tie as tie
 enum-known-devices : tie.Need-enum-known-devices
 enum-known-devices c = search needs
 
-answer-by-requires : tie.Need-answer-by-requires
-answer-by-requires c κs = search needs
-
 enum-told : tie.Need-enum-told
 enum-told c = search needs
 
@@ -20,7 +17,7 @@ enum-told-3 : tie.Need-enum-told-3
 enum-told-3 c = search needs
 
 returns : tie.Need-returns
-returns c = rw (c .before .before .devices .given .1) (c .answer-by .ensures)
+returns c = rw (c .before .devices .given .1)
 
 returns-2 : tie.Need-returns-2
 returns-2 c = search needs
@@ -36,7 +33,6 @@ only-device-spec =
     tie.close
     (tie.spec
     enum-known-devices
-    answer-by-requires
     enum-told
     enum-told-2
     enum-told-3

@@ -1,16 +1,32 @@
--- `translation::target_on` meets its contract. The loop's invariant: the search from target k on finds what the whole search does.
+-- `translation::target_on` meets its contract. The loop's invariant: the search from target k on finds what the whole
+-- search does.
 -- Assumes nothing.
 use mathlib.Core.Path.{_≡_, refl, sym, _∙_}
-use Prim.Native.Nat.{_-_, _≤_}
-use Rattle.translation.specs.Translation.{targetFrom}
-use Rattle.translation.proofs.TranslationLaws.{target-hit, target-miss, target-none}
+use mathlib.Core.Bool.{cond}
+use mathlib.Core.List.{List}
+use Prim.Native.Nat.{ℕ, suc, _+_, _-_, _≤_, _<_}
+use native.Mathlib.Numerals.{add-one}
+use Rattle.registers.specs.RegisterMap.{TARGET-ID-0, TARGET-ALIAS-0}
+use Rattle.registers.specs.RegisterFiles.{pageAt}
+use Rattle.translation.specs.declared.Remote.the-variants.{Target}
+use Rattle.translation.specs.Translation.{address7, isAlias, deviceOn, targetFrom}
 use borrow.Author.Needs.{needs}
 use native.Mathlib.Omega.{arith}
 use Rattle.translation.proofs.target_on.Statement.{statement}
 use Rattle.translation.proofs.target_on.Tie as tie
 
+-- the search at number k
+target-step : (pages : List ℕ) (port address k : ℕ) → k < 8
+    → targetFrom pages port address k (8 - k)
+    ≡ cond (isAlias (pageAt pages port (TARGET-ALIAS-0 + k)) address)
+    (deviceOn port (Target k (address7 (pageAt pages port (TARGET-ID-0 + k)))))
+    (targetFrom pages port address (k + 1) (8 - (k + 1)))
+unfolding targetFrom
+target-step pages port address k h = let left : 8 - k ≡ suc (8 - (k + 1)) = omega arith in rw (left, add-one k)
+
 abbrev Inv-loop : tie.InvT-loop
-Inv-loop pages port address page k₀ k = (k ≤ 8) × (targetFrom pages port address k (8 - k) ≡ targetFrom pages port address 0 8)
+Inv-loop pages port address page k₀ k =
+    (k ≤ 8) × (targetFrom pages port address k (8 - k) ≡ targetFrom pages port address 0 8)
 
 abbrev μ-loop : tie.MeasureT-loop
 μ-loop pages port address page k₀ k = 8 - k
@@ -51,7 +67,8 @@ element-copy-out-t20 c = search needs
 returns : tie.Need-returns Inv-loop μ-loop
 returns c =
     let l = c .before .before .before .before .before .loop in
-    sym (target-hit _ _ _ (l .k) (omega arith) (sym (c .before .before .is-alias .ensures) ∙ c .before .if1 .taken)) ∙ l .inv .1
+    let hit = sym (c .before .before .is-alias .ensures) ∙ c .before .if1 .taken in
+    sym (target-step _ _ _ (l .k) (omega arith) ∙ rw hit) ∙ l .inv .1
 
 add-k : tie.Need-add-k Inv-loop μ-loop
 add-k c = search needs
@@ -62,10 +79,15 @@ loop-less c = search needs
 loop-again : tie.Need-loop-again Inv-loop μ-loop
 loop-again c =
     let l = c .before .before .before .before .loop in
-    (omega arith, sym (target-miss _ _ _ (l .k) (omega arith) (sym (c .before .is-alias .ensures) ∙ c .if1 .left)) ∙ l .inv .1)
+    let missed = sym (c .before .is-alias .ensures) ∙ c .if1 .left in
+    (omega arith, sym (target-step _ _ _ (l .k) (omega arith) ∙ rw missed) ∙ l .inv .1)
 
 returns-2 : tie.Need-returns-2 Inv-loop μ-loop
-returns-2 c = let l = c .before .loop in sym (target-none _ _ _ (l .k) (omega arith)) ∙ l .inv .1
+unfolding targetFrom
+returns-2 c =
+    let l = c .before .loop in
+    let none : 8 - l .k ≡ 0 = omega arith in
+    rw none at (l .inv .1)
 
 pub target-on-spec : {M : Type 1} → statement M
 target-on-spec =

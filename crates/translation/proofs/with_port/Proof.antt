@@ -1,7 +1,7 @@
 -- `translation::with_port` meets its contract, case by case.
 -- Assumes nothing.
-use Rattle.translation.specs.Translation.{matching}
-use Rattle.translation.proofs.TranslationLaws.{collected-none}
+use Rattle.translation.specs.Translation.{receivers}
+use Rattle.translation.proofs.Collecting.{collected-none}
 use borrow.Author.Needs.{needs}
 use Rattle.translation.proofs.with_port.Statement.{statement}
 use Rattle.translation.proofs.with_port.Tie as tie
@@ -19,7 +19,7 @@ returns : tie.Need-returns
 returns c = rw (c .enum-told .given .1) (collected-none (c .before .before .args .so-far))
 
 returns-2 : tie.Need-returns-2
-unfolding matching
+unfolding receivers
 returns-2 c = rw (c .before .before .answer .given .1) (c .with-device .ensures)
 
 pub with-port-spec : {M : Type 1} → statement M

@@ -1,16 +1,16 @@
 //! Single bytes changed, deleted and inserted, at every place in turn.
 
-use crate::rng::Rng;
+use crate::generate::rng::Rng;
 
-/// Bytes that a line or a record tells from its neighbours.
-const TELLING: &[u8] = b" \t\n\r\x0B\x0C\0#(),;0129:/@afgAFG`xXWwC2\
+/// Bytes that have a meaning in a line or in a record, and some next to them.
+const SPECIAL: &[u8] = b" \t\n\r\x0B\x0C\0#(),;0129:/@afgAFG`xXWwC2\
     \x01\x02\x03\x10\x11\x12\x13\x64\x7F\x80\x9A\xA0\xFF";
 
 fn byte(rng: &mut Rng) -> u8 {
     if rng.one_in(4) {
         rng.byte()
     } else {
-        rng.pick(TELLING)
+        rng.pick(SPECIAL)
     }
 }
 

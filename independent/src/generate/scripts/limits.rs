@@ -1,10 +1,12 @@
 //! Texts and traces of the most bytes the program takes, and of more.
 
 use super::{lines, Job};
-use crate::convert::MOST_BYTES;
-use crate::rng::Rng;
-use crate::script::Script;
-use crate::trace::READ;
+use crate::generate::rng::Rng;
+use crate::model::trace::READ;
+use crate::model::trace_builder::TraceBuilder;
+
+/// The most bytes of a file that the program `convert` takes; no rule of the papers.
+pub const MOST_BYTES: usize = 262_144;
 
 const TEXTS: usize = 8;
 const TRACES: usize = 6;
@@ -72,10 +74,10 @@ fn trace(rng: &mut Rng, turn: usize) -> Vec<u8> {
         1 => right_trace(rng, MOST_BYTES, 6),
         2 => right_trace(rng, MOST_BYTES + 1, LONGEST_RECORD),
         3 => {
-            let mut script = Script::default();
-            script.raw(&right_trace(rng, MOST_BYTES - 5, LONGEST_RECORD));
-            script.record(READ, &[0x4C]);
-            script.into_bytes()
+            let mut trace = TraceBuilder::default();
+            trace.raw(&right_trace(rng, MOST_BYTES - 5, LONGEST_RECORD));
+            trace.record(READ, &[0x4C]);
+            trace.into_bytes()
         }
         4 => right_trace(rng, MOST_BYTES + 1, 6)[..MOST_BYTES].to_vec(),
         _ => right_trace(rng, 3 * MOST_BYTES, 6),
@@ -84,15 +86,15 @@ fn trace(rng: &mut Rng, turn: usize) -> Vec<u8> {
 
 /// The hub record and write records of `step` bytes, the last ones so that all have `length`.
 fn right_trace(rng: &mut Rng, length: usize, step: usize) -> Vec<u8> {
-    let mut script = Script::with_hub(ADDRESS);
+    let mut trace = TraceBuilder::with_hub(ADDRESS);
     loop {
-        let size = match length - script.as_bytes().len() {
-            0 => return script.into_bytes(),
+        let size = match length - trace.as_bytes().len() {
+            0 => return trace.into_bytes(),
             rest if rest >= 2 * step => step,
             rest if rest > LONGEST_RECORD => rest / 2,
             rest => rest,
         };
         let values = rng.bytes(size - 5);
-        script.burst(rng.byte(), &values);
+        trace.burst(rng.byte(), &values);
     }
 }

@@ -1,9 +1,9 @@
 //! Lines as installers type them, all right but for their length where more is asked for; none has
 //! its line feed yet.
 
-use crate::rng::Rng;
+use crate::generate::rng::Rng;
 
-/// Where blanks may stand: before the word, then behind the word, (, value, comma, value and ).
+/// Where blanks may stand: before the word, then after the word, (, value, comma, value and ).
 pub const PLACES: usize = 7;
 
 const DIGITS: &[u8] = b"0123456789abcdefABCDEF";
@@ -49,12 +49,12 @@ pub fn call_with(rng: &mut Rng, blanks: &[Vec<u8>; PLACES]) -> Vec<u8> {
 }
 
 /// A call as the data sheet prints it, without blanks.
-pub fn tidy_call(rng: &mut Rng) -> Vec<u8> {
+pub fn plain_call(rng: &mut Rng) -> Vec<u8> {
     call_with(rng, &Default::default())
 }
 
 /// A call with blanks wherever they may stand.
-pub fn airy_call(rng: &mut Rng) -> Vec<u8> {
+pub fn spaced_call(rng: &mut Rng) -> Vec<u8> {
     let blanks = [0; PLACES].map(|_| blanks(rng));
     call_with(rng, &blanks)
 }
@@ -114,7 +114,7 @@ pub fn of_length(rng: &mut Rng, length: usize) -> Vec<u8> {
         1 => (0..length).map(|_| blank(rng)).collect(),
         2 => stretched_call(rng, length),
         _ => {
-            let call = tidy_call(rng);
+            let call = plain_call(rng);
             commented_to(rng, call, length)
         }
     }
@@ -126,8 +126,8 @@ pub fn right(rng: &mut Rng) -> Vec<u8> {
         0 => Vec::new(),
         1 => blanks(rng),
         2 => return of_length(rng, 200),
-        3 | 4 => tidy_call(rng),
-        _ => airy_call(rng),
+        3 | 4 => plain_call(rng),
+        _ => spaced_call(rng),
     };
     if rng.one_in(2) {
         line.extend(blanks(rng));

@@ -9,10 +9,11 @@ mod traces;
 mod wrong;
 
 pub use kinds::Kind;
+pub use limits::MOST_BYTES;
 
-use super::{scheduled, values};
-use crate::rng::Rng;
-use crate::samples::SCRIPTS;
+use crate::generate::rng::Rng;
+use crate::generate::samples::SCRIPTS;
+use crate::generate::{scheduled, values};
 use kinds::SCHEDULE;
 
 /// What the program is asked for: the trace of a text, or the text of a trace.

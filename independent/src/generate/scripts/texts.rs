@@ -1,7 +1,7 @@
 //! Texts of right lines, and texts with something wrong in them.
 
 use super::{lines, wrong};
-use crate::rng::Rng;
+use crate::generate::rng::Rng;
 
 /// A line with most of what may vary, for edits at each of its places.
 const EDITED: &[u8] = b" WriteI2C\t( 0x4c ,0xF )\t# RX0\n";
@@ -64,13 +64,13 @@ pub fn many(rng: &mut Rng, turn: usize) -> Vec<u8> {
     text
 }
 
-/// One line, with right lines before it and behind it.
+/// One line, with right lines before it and after it.
 fn around(rng: &mut Rng, line: &[u8]) -> Vec<u8> {
-    let (before, behind) = (right(rng, 6), right(rng, 3));
-    [&before, line, b"\n", &behind].concat()
+    let (before, after) = (right(rng, 6), right(rng, 3));
+    [&before, line, b"\n", &after].concat()
 }
 
-/// A line of another shape in its turn, with what is wrong; now and then a second one behind it.
+/// A line of another shape in its turn, with what is wrong; now and then a second one after it.
 pub fn wrong(rng: &mut Rng, turn: usize) -> (&'static str, Vec<u8>) {
     let (point, mut line) = wrong::line(rng, turn);
     if rng.one_in(3) {
@@ -123,8 +123,8 @@ pub fn order(rng: &mut Rng, turn: usize) -> Vec<u8> {
 /// The last line has no line feed.
 pub fn unended(rng: &mut Rng, turn: usize) -> Vec<u8> {
     let last = match turn % 7 {
-        0 => lines::tidy_call(rng),
-        1 => lines::airy_call(rng),
+        0 => lines::plain_call(rng),
+        1 => lines::spaced_call(rng),
         2 => lines::comment(rng),
         3 => rng.pick(&[&b" "[..], b"\t", b" \t "]).to_vec(),
         4 => lines::of_length(rng, 200),
@@ -136,8 +136,8 @@ pub fn unended(rng: &mut Rng, turn: usize) -> Vec<u8> {
 
 /// A right text, one line of which was edited.
 pub fn edited(rng: &mut Rng, edit: impl Fn(&mut Rng, Vec<u8>) -> Vec<u8>) -> Vec<u8> {
-    let (before, behind) = (right(rng, 2), right(rng, 2));
-    [before, edit(rng, EDITED.to_vec()), behind].concat()
+    let (before, after) = (right(rng, 2), right(rng, 2));
+    [before, edit(rng, EDITED.to_vec()), after].concat()
 }
 
 /// Parts of lines in any order.

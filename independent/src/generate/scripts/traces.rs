@@ -1,9 +1,10 @@
 //! Traces of hub and write records, and such traces with something else in them.
 
-use crate::generate::{self, values, Kind};
-use crate::rng::Rng;
-use crate::script::Script;
-use crate::trace::{ADDRESS, FRAME_END, FRAME_START, HUB_ADDRESS, LINE, MARK, READ, WRITE};
+use crate::generate::rng::Rng;
+use crate::generate::traces::{self, Kind};
+use crate::generate::values;
+use crate::model::trace::{ADDRESS, FRAME_END, FRAME_START, HUB_ADDRESS, LINE, MARK, READ, WRITE};
+use crate::model::trace_builder::TraceBuilder;
 
 const NO_TEXT_FORM: [u8; 5] = [READ, ADDRESS, FRAME_START, FRAME_END, LINE];
 
@@ -23,7 +24,7 @@ const OTHERS: [Kind; 12] = [
     Kind::OneByte,
 ];
 
-fn write(script: &mut Script, rng: &mut Rng) {
+fn write(trace: &mut TraceBuilder, rng: &mut Rng) {
     let first = match rng.below(3) {
         0 => rng.byte(),
         1 => rng.between(0xF0, 0xFF) as u8,
@@ -36,45 +37,45 @@ fn write(script: &mut Script, rng: &mut Rng) {
         _ => 1,
     };
     let values = rng.bytes(count as usize);
-    script.burst(first, &values);
+    trace.burst(first, &values);
 }
 
-fn writes(script: &mut Script, rng: &mut Rng, most: u64) {
+fn writes(trace: &mut TraceBuilder, rng: &mut Rng, most: u64) {
     for _ in 0..rng.between(0, most) {
-        write(script, rng);
+        write(trace, rng);
     }
 }
 
 /// The hub record and up to so many write records.
 pub fn right(rng: &mut Rng, most: u64) -> Vec<u8> {
-    let mut script = Script::with_hub(values::hub_address(rng));
-    writes(&mut script, rng, most);
-    script.into_bytes()
+    let mut trace = TraceBuilder::with_hub(values::hub_address(rng));
+    writes(&mut trace, rng, most);
+    trace.into_bytes()
 }
 
 /// Each offset and each value at least once, one value a record and in bursts.
 pub fn every_byte() -> Vec<u8> {
-    let mut script = Script::with_hub(0x3D);
+    let mut trace = TraceBuilder::with_hub(0x3D);
     let all: Vec<u8> = (0..=255).collect();
     for &byte in &all {
-        script.write(byte, 255 - byte);
+        trace.write(byte, 255 - byte);
     }
-    script.burst(0x80, &all[..254]);
-    script.burst(0x7E, &all[2..]);
-    script.into_bytes()
+    trace.burst(0x80, &all[..254]);
+    trace.burst(0x7E, &all[2..]);
+    trace.into_bytes()
 }
 
 /// Few bytes with a bit of everything, for edits at each place.
 pub fn short() -> Vec<u8> {
-    let mut script = Script::with_hub(0x3D);
-    script.write(0x4C, 0x0F);
-    script.burst(0xFE, &[0x00, 0x9A, 0x64, 0x01]);
-    script.write(0x58, 0x58);
-    script.into_bytes()
+    let mut trace = TraceBuilder::with_hub(0x3D);
+    trace.write(0x4C, 0x0F);
+    trace.burst(0xFE, &[0x00, 0x9A, 0x64, 0x01]);
+    trace.write(0x58, 0x58);
+    trace.into_bytes()
 }
 
 /// A record with no text form, each kind in turn, with its right shape or not.
-fn no_text(script: &mut Script, rng: &mut Rng, turn: usize, right: bool) {
+fn no_text(trace: &mut TraceBuilder, rng: &mut Rng, turn: usize, right: bool) {
     let kind = NO_TEXT_FORM[turn % NO_TEXT_FORM.len()];
     let length = match kind {
         READ | FRAME_END => 1,
@@ -88,70 +89,70 @@ fn no_text(script: &mut Script, rng: &mut Rng, turn: usize, right: bool) {
         (false, _) if rng.one_in(2) => data.push(0),
         (false, _) => drop(data.pop()),
     }
-    script.record(kind, &data);
+    trace.record(kind, &data);
 }
 
-/// What stands behind the record that decides: in turn writes, a cut record, a record with no text
+/// What follows the record that decides: in turn writes, a cut record, a record with no text
 /// form, nothing.
-fn behind(script: &mut Script, rng: &mut Rng, turn: usize) {
+fn append_rest(trace: &mut TraceBuilder, rng: &mut Rng, turn: usize) {
     match turn % 4 {
-        0 => writes(script, rng, 3),
-        1 => script.raw(&[MARK[0], MARK[1], WRITE, 0x02, 0x4C]),
-        2 => no_text(script, rng, turn / 4, true),
+        0 => writes(trace, rng, 3),
+        1 => trace.raw(&[MARK[0], MARK[1], WRITE, 0x02, 0x4C]),
+        2 => no_text(trace, rng, turn / 4, true),
         _ => {}
     }
 }
 
-/// What is no record where it stands: wrong shapes, a second hub record, another kind, another mark.
-fn no_record(script: &mut Script, rng: &mut Rng, turn: usize) {
+/// What is no record where it stands: wrong shapes, a second hub record, another kind or mark.
+fn no_record(trace: &mut TraceBuilder, rng: &mut Rng, turn: usize) {
     match turn % 8 {
-        0..=2 => no_text(script, rng, turn, false),
-        3 => script.record(HUB_ADDRESS, &[0x3D]),
-        4 => script.record(WRITE, &[rng.byte()]),
-        5 => script.record(WRITE, &[]),
-        6 => script.record(rng.pick(&[0x04, 0x0F, 0x13, 0x80, 0xFF]), &[0x4C, 0x0F]),
-        _ => script.raw(&[0x9A, 0x65, WRITE, 0x02, 0x4C, 0x0F]),
+        0..=2 => no_text(trace, rng, turn, false),
+        3 => trace.record(HUB_ADDRESS, &[0x3D]),
+        4 => trace.record(WRITE, &[rng.byte()]),
+        5 => trace.record(WRITE, &[]),
+        6 => trace.record(rng.pick(&[0x04, 0x0F, 0x13, 0x80, 0xFF]), &[0x4C, 0x0F]),
+        _ => trace.raw(&[0x9A, 0x65, WRITE, 0x02, 0x4C, 0x0F]),
     }
 }
 
 /// Among writes a record with no text form, and every other time what is no record.
 pub fn without_text(rng: &mut Rng, turn: usize) -> Vec<u8> {
-    let mut script = Script::with_hub(values::hub_address(rng));
-    writes(&mut script, rng, 6);
+    let mut trace = TraceBuilder::with_hub(values::hub_address(rng));
+    writes(&mut trace, rng, 6);
     if turn.is_multiple_of(2) {
-        no_text(&mut script, rng, turn / 2, true);
+        no_text(&mut trace, rng, turn / 2, true);
     } else {
-        no_record(&mut script, rng, turn / 2);
+        no_record(&mut trace, rng, turn / 2);
     }
-    behind(&mut script, rng, turn / 2 / NO_TEXT_FORM.len());
-    script.into_bytes()
+    append_rest(&mut trace, rng, turn / 2 / NO_TEXT_FORM.len());
+    trace.into_bytes()
 }
 
 /// The first record is right but not the hub's, or the hub's with no byte or two.
 pub fn first(rng: &mut Rng, turn: usize) -> Vec<u8> {
-    let mut script = Script::default();
+    let mut trace = TraceBuilder::default();
     match turn % 8 {
-        0 => write(&mut script, rng),
-        1 => script.record(HUB_ADDRESS, &[]),
-        2 => script.record(HUB_ADDRESS, &[0x3D, 0x00]),
-        _ => no_text(&mut script, rng, turn, true),
+        0 => write(&mut trace, rng),
+        1 => trace.record(HUB_ADDRESS, &[]),
+        2 => trace.record(HUB_ADDRESS, &[0x3D, 0x00]),
+        _ => no_text(&mut trace, rng, turn, true),
     }
-    writes(&mut script, rng, 3);
-    script.into_bytes()
+    writes(&mut trace, rng, 3);
+    trace.into_bytes()
 }
 
 /// A hub record with an address that no hub has; every fourth time it is not even a record.
 pub fn bad_hub(rng: &mut Rng, turn: usize) -> Vec<u8> {
     let addresses = values::BAD_HUB_ADDRESSES;
     let address = addresses[turn % addresses.len()];
-    let mut script = Script::default();
+    let mut trace = TraceBuilder::default();
     if rng.one_in(4) {
-        script.record(HUB_ADDRESS, &[address, address]);
+        trace.record(HUB_ADDRESS, &[address, address]);
     } else {
-        script.record(HUB_ADDRESS, &[address]);
+        trace.record(HUB_ADDRESS, &[address]);
     }
-    behind(&mut script, rng, turn / addresses.len());
-    script.into_bytes()
+    append_rest(&mut trace, rng, turn / addresses.len());
+    trace.into_bytes()
 }
 
 pub fn cut(turn: usize) -> Vec<u8> {
@@ -163,5 +164,5 @@ pub fn cut(turn: usize) -> Vec<u8> {
 /// A trace of the other generator.
 pub fn other(rng: &mut Rng, turn: usize) -> Vec<u8> {
     let kind = OTHERS[turn % OTHERS.len()];
-    generate::trace(kind, rng, (turn / OTHERS.len()) as u64)
+    traces::trace(kind, rng, (turn / OTHERS.len()) as u64)
 }

@@ -1,7 +1,7 @@
 //! Lines of another shape: what is wrong with each, as a point of the comparison, and the line.
 
 use super::lines;
-use crate::rng::Rng;
+use crate::generate::rng::Rng;
 
 const WRONG: &[(&str, &str)] = &[
     ("14 for a carriage return", "WriteI2C(0x4c,0x0f)\r"),
@@ -78,11 +78,11 @@ const WRONG: &[(&str, &str)] = &[
         "14 for two calls",
         "WriteI2C(0x4c,0x0f);WriteI2C(0x58,0x58)",
     ),
-    ("14 for text behind a call", "WriteI2C(0x4c,0x0f);"),
-    ("14 for text behind a call", "WriteI2C(0x4c,0x0f) RX0"),
-    ("14 for text behind a call", "WriteI2C(0x4c,0x0f) // RX0"),
-    ("14 for text behind a call", "WriteI2C(0x4c,0x0f)0"),
-    ("14 for text behind a call", "WriteI2C(0x4c,0x0f)\\"),
+    ("14 for text after a call", "WriteI2C(0x4c,0x0f);"),
+    ("14 for text after a call", "WriteI2C(0x4c,0x0f) RX0"),
+    ("14 for text after a call", "WriteI2C(0x4c,0x0f) // RX0"),
+    ("14 for text after a call", "WriteI2C(0x4c,0x0f)0"),
+    ("14 for text after a call", "WriteI2C(0x4c,0x0f)\\"),
     ("14 for text before a call", "> WriteI2C(0x4c,0x0f)"),
     ("14 for text before a call", "1: WriteI2C(0x4c,0x0f)"),
     ("14 for text before a call", "0x30 WriteI2C(0x4c,0x0f)"),

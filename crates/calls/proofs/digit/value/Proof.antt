@@ -1,9 +1,12 @@
 -- `calls::digit::value` meets its contract, by the range that the byte lies in.
 -- Assumes nothing.
 use mathlib.Core.Path.{sym}
+use Prim.Native.Nat.{_-_}
 use native.Mathlib.Omega.{arith}
 use borrow.Author.Needs.{needs}
-use Rattle.calls.proofs.ScanLaws.{digit-decimal, digit-capital, digit-small, digit-under, digit-before-capitals, digit-before-small, digit-over}
+use Rattle.laws.proofs.Tables.{allBelow}
+use Rattle.calls.specs.Grammar.{digitValue}
+use Rattle.calls.proofs.ScanLaws.{digit-between}
 use Rattle.calls.proofs.digit.value.Statement.{statement}
 use Rattle.calls.proofs.digit.value.Tie as tie
 
@@ -14,25 +17,32 @@ sub-result-2 : tie.Need-sub-result-2
 sub-result-2 c = search needs
 
 returns : tie.Need-returns
-returns c = (sym (digit-decimal (c .before .before .args .byte) (omega arith) (omega arith)), omega arith)
+unfolding digitValue allBelow
+returns c = sym (digit-between 48 10 (λ b. b - 48) tt (c .before .before .args .byte) (omega arith) (omega arith))
 
 returns-2 : tie.Need-returns-2
-returns-2 c = (sym (digit-capital (c .before .before .before .before .args .byte) (omega arith) (omega arith)), omega arith)
+unfolding digitValue allBelow
+returns-2 c = sym (digit-between 65 6 (λ b. b - 55) tt (c .before .before .before .before .args .byte) (omega arith) (omega arith))
 
 returns-3 : tie.Need-returns-3
-returns-3 c = (sym (digit-small (c .before .before .before .before .before .before .args .byte) (omega arith) (omega arith)), omega arith)
+unfolding digitValue allBelow
+returns-3 c = sym (digit-between 97 6 (λ b. b - 87) tt (c .before .before .before .before .before .before .args .byte) (omega arith) (omega arith))
 
 returns-4 : tie.Need-returns-4
-returns-4 c = (sym (digit-under (c .before .args .byte) (omega arith)), omega arith)
+unfolding digitValue allBelow
+returns-4 c = sym (digit-between 0 48 (λ b. 16) tt (c .before .args .byte) (omega arith) (omega arith))
 
 returns-5 : tie.Need-returns-5
-returns-5 c = (sym (digit-before-capitals (c .before .before .before .args .byte) (omega arith) (omega arith)), omega arith)
+unfolding digitValue allBelow
+returns-5 c = sym (digit-between 58 7 (λ b. 16) tt (c .before .before .before .args .byte) (omega arith) (omega arith))
 
 returns-6 : tie.Need-returns-6
-returns-6 c = (sym (digit-before-small (c .before .before .before .before .before .args .byte) (omega arith) (omega arith)), omega arith)
+unfolding digitValue allBelow
+returns-6 c = sym (digit-between 71 26 (λ b. 16) tt (c .before .before .before .before .before .args .byte) (omega arith) (omega arith))
 
 returns-7 : tie.Need-returns-7
-returns-7 c = (sym (digit-over (c .before .before .before .before .before .before .args .byte) (omega arith)), omega arith)
+unfolding digitValue allBelow
+returns-7 c = sym (digit-between 103 153 (λ b. 16) tt (c .before .before .before .before .before .before .args .byte) (omega arith) (omega arith))
 
 pub value-spec : {M : Type 1} → statement M
 value-spec =

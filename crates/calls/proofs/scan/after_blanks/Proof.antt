@@ -1,13 +1,14 @@
--- `calls::scan::after_blanks` meets its contract. The loop's invariant: behind the blanks from here on stands what stands behind them from the start.
+-- `calls::scan::after_blanks` meets its contract. The loop's invariant: the blanks from here on end where those from the start end.
 -- Assumes nothing.
 use mathlib.Core.Path.{_≡_, refl, sym, _∙_}
-use Prim.Native.Nat.{_-_}
+use mathlib.Core.Bool.{cond}
+use Prim.Native.Nat.{_+_, _-_}
 use native.Mathlib.Omega.{arith}
 use borrow.Author.Needs.{needs}
 use borrow.Author.Tests.{not-true, not-false}
-use lib.ListN.{length, drop}
-use Rattle.calls.specs.Lines.{afterBlanks}
-use Rattle.calls.proofs.ScanLaws.{blanks-end, blanks-stop, blanks-next}
+use lib.ListN.{length, drop, drop-of-length-le}
+use Rattle.calls.specs.ScriptLines.{afterBlanks}
+use Rattle.calls.proofs.ScanLaws.{from}
 use Rattle.calls.proofs.scan.after_blanks.Statement.{statement}
 use Rattle.calls.proofs.scan.after_blanks.Tie as tie
 
@@ -16,6 +17,17 @@ Inv-loop line at place₀ place = afterBlanks (drop place line) ≡ afterBlanks 
 
 abbrev μ-loop : tie.MeasureT-loop
 μ-loop line at place₀ place = length line - place
+
+-- the blanks from the start, by the byte at the place
+by-byte : (c : tie.After-is-blank Inv-loop μ-loop) →
+    let place = c .before .before .before .loop .place in
+    let x = c .before .before .before .before .before .args in
+    afterBlanks (drop (x .at) (x .line .now)) ≡ cond (c .is-blank .result) (afterBlanks (drop (place + 1) (x .line .now))) (drop place (x .line .now))
+unfolding afterBlanks
+by-byte c =
+    let l = c .before .before .before .loop in
+    let line = c .before .before .before .before .before .args .line .now in
+    sym (l .inv) ∙ rw (from line (l .place) (omega arith), c .is-blank .ensures)
 
 loop-holds : tie.Need-loop-holds Inv-loop μ-loop
 loop-holds c = refl
@@ -27,11 +39,7 @@ is-blank-requires : tie.Need-is-blank-requires Inv-loop μ-loop
 is-blank-requires c κs = search needs
 
 returns : tie.Need-returns Inv-loop μ-loop
-returns c =
-    let byte = c .before in
-    let l = byte .before .before .before .loop in
-    let line = byte .before .before .before .before .before .args .line .now in
-    blanks-stop line (l .place) (omega arith) (sym (byte .is-blank .ensures) ∙ not-true (byte .is-blank .result) (c .if1 .taken)) ∙ l .inv
+returns c = rw (by-byte (c .before), not-true (c .before .is-blank .result) (c .if1 .taken))
 
 add-place : tie.Need-add-place Inv-loop μ-loop
 add-place c = search needs
@@ -40,14 +48,13 @@ loop-less : tie.Need-loop-less Inv-loop μ-loop
 loop-less c = search needs
 
 loop-again : tie.Need-loop-again Inv-loop μ-loop
-loop-again c =
-    let byte = c .before in
-    let l = byte .before .before .before .loop in
-    let line = byte .before .before .before .before .before .args .line .now in
-    sym (blanks-next line (l .place) (omega arith) (sym (byte .is-blank .ensures) ∙ not-false (byte .is-blank .result) (c .if1 .left))) ∙ l .inv
+loop-again c = rw (by-byte (c .before), not-false (c .before .is-blank .result) (c .if1 .left))
 
 returns-2 : tie.Need-returns-2 Inv-loop μ-loop
-returns-2 c = blanks-end (c .before .before .before .args .line .now) (c .before .loop .place) (omega arith) ∙ c .before .loop .inv
+unfolding afterBlanks
+returns-2 c =
+    let l = c .before .loop in
+    rw (sym (l .inv), drop-of-length-le (c .before .before .before .args .line .now) {i = l .place} (omega arith))
 
 pub after-blanks-spec : {M : Type 1} → statement M
 after-blanks-spec =

@@ -1,7 +1,7 @@
 -- `calls::scan::expect` meets its contract, by where the reading stands.
 -- Assumes nothing.
 use mathlib.Core.Path.{ap, _∙_}
-use Rattle.calls.specs.Lines.{afterWord, behind}
+use Rattle.calls.specs.ScriptLines.{afterPrefix, afterToken}
 use borrow.Author.Needs.{needs}
 use Rattle.calls.proofs.scan.expect.Statement.{statement}
 use Rattle.calls.proofs.scan.expect.Tie as tie
@@ -15,18 +15,18 @@ enum-known-scan c = search needs
 after-blanks-requires : tie.Need-after-blanks-requires
 after-blanks-requires c κs = search needs
 
-after-word-requires : tie.Need-after-word-requires
-after-word-requires c κs = search needs
+after-prefix-requires : tie.Need-after-prefix-requires
+after-prefix-requires c κs = search needs
 
 returns : tie.Need-returns
-unfolding behind
+unfolding afterToken
 returns c = rw (c .enum-told .given .1)
 
 returns-2 : tie.Need-returns-2
-unfolding behind
+unfolding afterToken
 returns-2 c =
     let b = c .before in
-    rw (b .before .before .scan .given .1) (c .after-word .ensures ∙ ap (afterWord _) (b .after-blanks .ensures))
+    rw (b .before .before .scan .given .1) (c .after-prefix .ensures ∙ ap (afterPrefix _) (b .after-blanks .ensures))
 
 pub expect-spec : {M : Type 1} → statement M
 expect-spec =
@@ -35,6 +35,6 @@ expect-spec =
     enum-told
     enum-known-scan
     after-blanks-requires
-    after-word-requires
+    after-prefix-requires
     returns
     returns-2)

@@ -1,4 +1,4 @@
--- `calls::scan::is_blank` meets its contract.
+-- `calls::scan::is_blank` meets its contract, byte by byte.
 -- Assumes nothing.
 use borrow.Author.Tests.{eq-eqb, ne-eqb}
 use Rattle.calls.specs.Grammar.{isBlank}

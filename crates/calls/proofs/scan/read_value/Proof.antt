@@ -1,7 +1,7 @@
 -- `calls::scan::read_value` meets its contract, by whether 0x stands there.
 -- Assumes nothing.
 use mathlib.Core.Path.{sym}
-use Rattle.calls.specs.Lines.{digitsRead, valueRead}
+use Rattle.calls.specs.ScriptLines.{digitsRead, valueRead}
 use borrow.Author.Needs.{needs}
 use Rattle.calls.proofs.scan.read_value.Statement.{statement}
 use Rattle.calls.proofs.scan.read_value.Tie as tie

@@ -1,16 +1,15 @@
--- `convert::show::line_end` meets its contract. The loop's invariant: the place lies between the start and the text's end.
+-- `convert::show::line_end` meets its contract. The loop's invariant: the place is not before the start.
 -- Assumes nothing.
 use Prim.Native.Nat.{_-_, _≤_}
-use lib.ListN.{length}
 use borrow.Author.Needs.{needs}
 use Rattle.convert.proofs.show.line_end.Statement.{statement}
 use Rattle.convert.proofs.show.line_end.Tie as tie
 
 abbrev Inv-loop : tie.InvT-loop
-Inv-loop text start place₀ place = (start ≤ place) × (place ≤ length text)
+Inv-loop text start place₀ place-end place = start ≤ place
 
 abbrev μ-loop : tie.MeasureT-loop
-μ-loop text start place₀ place = length text - place
+μ-loop text start place₀ place-end place = place-end - place
 
 loop-holds : tie.Need-loop-holds Inv-loop μ-loop
 loop-holds c = search needs

@@ -7,25 +7,19 @@ use Rattle.convert.proofs.show.line_start.Statement.{statement}
 use Rattle.convert.proofs.show.line_start.Tie as tie
 
 abbrev Inv-loop : tie.InvT-loop
-Inv-loop text number start₀ passed₀ start passed = start ≤ length text
+Inv-loop text number start₀ counter₀ start counter = start ≤ length text
 
 abbrev μ-loop : tie.MeasureT-loop
-μ-loop text number start₀ passed₀ start passed = number - passed
+μ-loop text number start₀ counter₀ start counter = number - counter
 
 loop-holds : tie.Need-loop-holds Inv-loop μ-loop
 loop-holds c = search needs
 
-line-end-requires : tie.Need-line-end-requires Inv-loop μ-loop
-line-end-requires c κs = search needs
+next-line-requires : tie.Need-next-line-requires Inv-loop μ-loop
+next-line-requires c κs = search needs
 
-returns : tie.Need-returns Inv-loop μ-loop
-returns c = search needs
-
-add-start : tie.Need-add-start Inv-loop μ-loop
-add-start c = search needs
-
-add-passed : tie.Need-add-passed Inv-loop μ-loop
-add-passed c = search needs
+add-counter : tie.Need-add-counter Inv-loop μ-loop
+add-counter c = search needs
 
 loop-less : tie.Need-loop-less Inv-loop μ-loop
 loop-less c = search needs
@@ -33,8 +27,8 @@ loop-less c = search needs
 loop-again : tie.Need-loop-again Inv-loop μ-loop
 loop-again c = search needs
 
-returns-2 : tie.Need-returns-2 Inv-loop μ-loop
-returns-2 c = search needs
+returns : tie.Need-returns Inv-loop μ-loop
+returns c = search needs
 
 pub line-start-spec : {M : Type 1} → statement M
 line-start-spec =
@@ -43,10 +37,8 @@ line-start-spec =
     Inv-loop
     μ-loop
     loop-holds
-    line-end-requires
-    returns
-    add-start
-    add-passed
+    next-line-requires
+    add-counter
     loop-less
     loop-again
-    returns-2)
+    returns)

@@ -1,28 +1,18 @@
--- `convert::show::show_bytes` meets its contract: it keeps inside the line.
+-- `convert::show::show_bytes` is safe and ends: the loop goes over the bytes once.
 -- Assumes nothing.
 use Prim.Native.Nat.{_-_}
-use lib.ListN.{length}
 use borrow.Author.Needs.{needs}
 use Rattle.convert.proofs.show.show_bytes.Statement.{statement}
 use Rattle.convert.proofs.show.show_bytes.Tie as tie
 
 abbrev Inv-loop : tie.InvT-loop
-Inv-loop line i₀ t3 t4 i = Unit {0}
+Inv-loop bytes i₀ i-end i = Unit {0}
 
 abbrev μ-loop : tie.MeasureT-loop
-μ-loop line i₀ t3 t4 i = length line - i
+μ-loop bytes i₀ i-end i = i-end - i
 
 loop-holds : tie.Need-loop-holds Inv-loop μ-loop
-loop-holds c = tt
-
-slice-aggregate-write-all : tie.Need-slice-aggregate-write-all Inv-loop μ-loop
-slice-aggregate-write-all c = search needs
-
-write-all-requires : tie.Need-write-all-requires Inv-loop μ-loop
-write-all-requires c κs = search needs
-
-returns : tie.Need-returns Inv-loop μ-loop
-returns c = search needs
+loop-holds c = search needs
 
 shared-slice-read-show-byte : tie.Need-shared-slice-read-show-byte Inv-loop μ-loop
 shared-slice-read-show-byte c = search needs
@@ -37,16 +27,10 @@ loop-less : tie.Need-loop-less Inv-loop μ-loop
 loop-less c = search needs
 
 loop-again : tie.Need-loop-again Inv-loop μ-loop
-loop-again c = tt
+loop-again c = search needs
 
-slice-aggregate-write-all-2 : tie.Need-slice-aggregate-write-all-2 Inv-loop μ-loop
-slice-aggregate-write-all-2 c = search needs
-
-write-all-requires-2 : tie.Need-write-all-requires-2 Inv-loop μ-loop
-write-all-requires-2 c κs = search needs
-
-returns-2 : tie.Need-returns-2 Inv-loop μ-loop
-returns-2 c = search needs
+returns : tie.Need-returns Inv-loop μ-loop
+returns c = search needs
 
 pub show-bytes-spec : {M : Type 1} → statement M
 show-bytes-spec =
@@ -55,14 +39,9 @@ show-bytes-spec =
     Inv-loop
     μ-loop
     loop-holds
-    slice-aggregate-write-all
-    write-all-requires
-    returns
     shared-slice-read-show-byte
     show-byte-requires
     add-i
     loop-less
     loop-again
-    slice-aggregate-write-all-2
-    write-all-requires-2
-    returns-2)
+    returns)

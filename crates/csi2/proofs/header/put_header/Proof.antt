@@ -1,4 +1,4 @@
--- `csi2::header::put_header` meets its contract: four stores, one behind the other.
+-- `csi2::header::put_header` meets its contract: four stores, one after the other.
 -- Assumes nothing.
 use mathlib.Core.Path.{ap, _∙_}
 use mathlib.Core.List.{[], _∷_}

@@ -1,4 +1,4 @@
--- `csi2::header::put_little_endian` meets its contract: two stores, one behind the other.
+-- `csi2::header::put_little_endian` meets its contract: two stores, one after the other.
 -- Assumes nothing.
 use lib.ListN.{length-set}
 use Rattle.laws.proofs.Buffers.{written-sets}

@@ -25,8 +25,7 @@ returns : tie.Need-returns
 unfolding headerBytes
 returns c =
     let s = c .before .before .before .before .before in
-    let x = s .args in
-    lent-written (x .buf .now) _ (headerBytes (x .identifier) (x .n)) (x .place) (s .pre) (c .before .before .put-header .ensures)
+    lent-written _ _ _ (s .args .place) (s .pre) (c .before .before .put-header .ensures)
 
 pub put-header-at-spec : {M : Type 1} → statement M
 put-header-at-spec =

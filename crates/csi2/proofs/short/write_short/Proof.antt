@@ -1,12 +1,10 @@
 -- `csi2::short::write_short` meets its contract, by the cases of the definition.
 -- Assumes nothing.
-use mathlib.Core.Path.{refl, sym, ap, _∙_}
-use Prim.Native.Nat.{ℕ}
+use mathlib.Core.Path.{refl, sym, _∙_}
 use borrow.Author.Tests.{leb-true, not-true, not-false}
-use Rattle.laws.specs.Buffers.{written}
 use Rattle.csi2.specs.Packets.{headerBytes}
 use Rattle.laws.proofs.Buffers.{refusal, writing}
-use Rattle.csi2.proofs.WriterLaws.{short-refused, short-given}
+use Rattle.csi2.proofs.WriterLaws.{short-by}
 use borrow.Author.Needs.{needs}
 use Rattle.csi2.proofs.short.write_short.Statement.{statement}
 use Rattle.csi2.proofs.short.write_short.Tie as tie
@@ -15,10 +13,7 @@ has-room-requires : tie.Need-has-room-requires
 has-room-requires c κs = search needs
 
 returns : tie.Need-returns
-returns c =
-    let r = c .before in
-    let x = r .before .before .args in
-    refusal (x .buf .now) (x .place) 8 (short-refused _ _ _ _ (x .place) (sym (r .has-room .ensures) ∙ not-true _ (c .if1 .taken)))
+returns c = refusal _ _ 8 (short-by _ _ _ _ _ (sym (c .before .has-room .ensures) ∙ not-true _ (c .if1 .taken)))
 
 sync-identifier-requires : tie.Need-sync-identifier-requires
 sync-identifier-requires c κs = search needs
@@ -37,9 +32,8 @@ returns-2 c =
     let h = c .before .before in
     let e = h .before .before .before in
     let r = e .before in
-    let x = r .before .before .args in
-    writing (x .buf .now) (x .place) 4 (headerBytes _ (x .number)) (short-given _ _ _ _ (x .place) (sym (r .has-room .ensures) ∙ not-false _ (e .if1 .left))) refl
-    (h .put-header-at .ensures ∙ ap (λ (i : ℕ). written (x .buf .now) (x .place) (headerBytes i (x .number))) (h .before .sync-identifier .ensures))
+    writing _ _ 4 _ (short-by _ _ _ _ _ (sym (r .has-room .ensures) ∙ not-false _ (e .if1 .left))) refl
+    (rw (h .before .sync-identifier .ensures) at (h .put-header-at .ensures))
 
 pub write-short-spec : {M : Type 1} → statement M
 write-short-spec =

@@ -14,26 +14,17 @@ of-refusal-requires c κs = search needs
 enum-known-correction : tie.Need-enum-known-correction
 enum-known-correction c = search needs
 
-cast-result : tie.Need-cast-result
-cast-result c = search needs
-
 of-corrected-requires : tie.Need-of-corrected-requires
 of-corrected-requires c κs = search needs
 
-cast-result-2 : tie.Need-cast-result-2
-cast-result-2 c = search needs
-
-mul-result : tie.Need-mul-result
-mul-result c = search needs
-
-add-result : tie.Need-add-result
-add-result c = search needs
+with-bit-requires : tie.Need-with-bit-requires
+with-bit-requires c κs = search needs
 
 returns : tie.Need-returns
 returns c = search needs
 
 returns-2 : tie.Need-returns-2
-returns-2 c = rw (c .before .before .correction .given .1) (omega arith)
+returns-2 c = rw (c .before .before .before .correction .given .1) (omega arith)
 
 pub of-correction-spec : {M : Type 1} → statement M
 of-correction-spec =
@@ -42,10 +33,7 @@ of-correction-spec =
     enum-told
     of-refusal-requires
     enum-known-correction
-    cast-result
     of-corrected-requires
-    cast-result-2
-    mul-result
-    add-result
+    with-bit-requires
     returns
     returns-2)

@@ -26,29 +26,11 @@ of-refusal-requires-3 c κs = search needs
 enum-known-read : tie.Need-enum-known-read
 enum-known-read c = search needs
 
-cast-result : tie.Need-cast-result
-cast-result c = search needs
-
-cast-result-2 : tie.Need-cast-result-2
-cast-result-2 c = search needs
-
-mul-result : tie.Need-mul-result
-mul-result c = search needs
-
-add-result : tie.Need-add-result
-add-result c = search needs
-
 of-corrected-requires : tie.Need-of-corrected-requires
 of-corrected-requires c κs = search needs
 
-cast-result-3 : tie.Need-cast-result-3
-cast-result-3 c = search needs
-
-mul-result-2 : tie.Need-mul-result-2
-mul-result-2 c = search needs
-
-add-result-2 : tie.Need-add-result-2
-add-result-2 c = search needs
+with-count-requires : tie.Need-with-count-requires
+with-count-requires c κs = search needs
 
 returns : tie.Need-returns
 returns c = search needs
@@ -60,7 +42,7 @@ returns-3 : tie.Need-returns-3
 returns-3 c = search needs
 
 returns-4 : tie.Need-returns-4
-returns-4 c = rw (c .before .before .read .given .1) (omega arith)
+returns-4 c = rw (c .before .before .before .read .given .1) (omega arith)
 
 pub of-packet-read-spec : {M : Type 1} → statement M
 of-packet-read-spec =
@@ -73,14 +55,8 @@ of-packet-read-spec =
     enum-told-3
     of-refusal-requires-3
     enum-known-read
-    cast-result
-    cast-result-2
-    mul-result
-    add-result
     of-corrected-requires
-    cast-result-3
-    mul-result-2
-    add-result-2
+    with-count-requires
     returns
     returns-2
     returns-3

@@ -1,75 +1,56 @@
 -- `frames::end::end` meets its contract: the port and its last frame are tested first.
 -- Assumes nothing.
-use mathlib.Core.Path.{sym, ap, _∙_}
-use lib.ListN.{length}
-use Rattle.frames.specs.Events.{endEvent, stateAfterEvent, closedWith}
-use Rattle.frames.proofs.EventLaws.{end-above, end-below, end-first, end-closed, answered-refused, answered-so}
+use borrow.Author.Tests.{lt-ltb, le-ltb}
+use Rattle.frames.specs.Events.{ifOpen, eventReply}
+use Rattle.frames.proofs.EventLaws.{if-closed, event-refused}
 use borrow.Author.Needs.{needs}
 use Rattle.frames.proofs.end.end.Statement.{statement}
 use Rattle.frames.proofs.end.end.Tie as tie
 
 returns : tie.Need-returns
-returns c =
-    let x = c .before .before .args in
-    answered-refused (x .hub) (stateAfterEvent (x .hub) (endEvent (x .port))) (x .buf .now) (x .place) 1
-    (end-above (x .hub) (x .port) (length (x .buf .now)) (x .place) (c .if1 .taken))
+unfolding eventReply
+returns c = rw (lt-ltb 3 _ (c .if1 .taken)) event-refused
 
-last-frame-requires : tie.Need-last-frame-requires
-last-frame-requires c κs = search needs
+port-frames-requires : tie.Need-port-frames-requires
+port-frames-requires c κs = search needs
 
-enum-told : tie.Need-enum-told
-enum-told c = search needs
-
-enum-told-2 : tie.Need-enum-told-2
-enum-told-2 c = search needs
-
-enum-known-format : tie.Need-enum-known-format
-enum-known-format c = search needs
-
-end-open-requires : tie.Need-end-open-requires
-end-open-requires c κs = search needs
+enum-known-last : tie.Need-enum-known-last
+enum-known-last c = search needs
 
 returns-2 : tie.Need-returns-2
+unfolding eventReply
 returns-2 c =
-    let l = c .before .before in
-    let x = l .before .before .before .args in
-    answered-refused (x .hub) (stateAfterEvent (x .hub) (endEvent (x .port))) (x .buf .now) (x .place) 4
-    (end-below (x .hub) (x .port) (length (x .buf .now)) (x .place) (l .before .if1 .left) (sym (c .enum-told .given .1) ∙ l .last-frame .ensures)
-    ∙ end-first (x .hub) (x .port) (length (x .buf .now)) (x .place))
+    let f = c .before in
+    rw (le-ltb 3 _ (f .before .if1 .left), ← f .port-frames .ensures, if-closed _ (c .match .keys2)) event-refused
 
-returns-3 : tie.Need-returns-3
-returns-3 c =
-    let l = c .before .before in
-    let x = l .before .before .before .args in
-    answered-refused (x .hub) (stateAfterEvent (x .hub) (endEvent (x .port))) (x .buf .now) (x .place) 4
-    (end-below (x .hub) (x .port) (length (x .buf .now)) (x .place) (l .before .if1 .left) (sym (c .enum-told2 .given .1) ∙ l .last-frame .ensures)
-    ∙ end-closed (x .hub) (x .port) (length (x .buf .now)) (x .place) (c .enum-told2 .given .0 .0) (c .enum-told2 .given .0 .1 .0))
+with-port-frames-requires : tie.Need-with-port-frames-requires
+with-port-frames-requires c κs = search needs
+
+put-sync-requires : tie.Need-put-sync-requires
+put-sync-requires c κs = search needs
 
 same-length : tie.Need-same-length
 same-length c = search needs
 
-returns-4 : tie.Need-returns-4
-returns-4 c =
-    let a = c .before .before in
-    let g = a .before .before .before in
-    let l = g .before .before in
-    let x = l .before .before .before .args in
-    let last = sym (g .format .given .1) ∙ l .last-frame .ensures in
-    answered-so (x .hub) (x .buf .now) (x .place)
-    (end-below (x .hub) (x .port) (length (x .buf .now)) (x .place) (l .before .if1 .left) last)
-    (ap (closedWith (x .hub) (x .port)) last) (a .end-open .ensures)
+returns-3 : tie.Need-returns-3
+unfolding eventReply ifOpen
+returns-3 c =
+    let p = c .before .before in
+    let m = p .before .before in
+    let l = m .before .before in
+    let f = l .before .before in
+    rw (le-ltb 3 _ (f .before .if1 .left), ← f .port-frames .ensures, l .last .given .1)
+    (rw (m .with-port-frames .ensures) at (p .put-sync .ensures))
 
 pub end-spec : {M : Type 1} → statement M
 end-spec =
     tie.close
     (tie.spec
     returns
-    last-frame-requires
-    enum-told
-    enum-told-2
-    enum-known-format
-    end-open-requires
+    port-frames-requires
+    enum-known-last
     returns-2
-    returns-3
+    with-port-frames-requires
+    put-sync-requires
     same-length
-    returns-4)
+    returns-3)

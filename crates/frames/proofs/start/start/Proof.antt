@@ -1,57 +1,70 @@
--- `frames::start::start` meets its contract: the port and the format are tested first.
+-- `frames::start::start` meets its contract: the port, the format and the port's last frame are tested first.
 -- Assumes nothing.
-use mathlib.Core.Path.{sym, ap, _∙_}
-use lib.ListN.{length}
-use Rattle.laws.specs.Reply.{Reply}
-use Rattle.formats.specs.declared.Format.{Format}
-use Rattle.formats.specs.Formats.{formatReply}
-use Rattle.frames.specs.Events.{startEvent, startWith, openedWith, stateAfterEvent}
-use Rattle.frames.proofs.EventLaws.{start-above, start-below, start-unknown, answered-refused, answered-so}
+use borrow.Author.Tests.{lt-ltb, le-ltb}
+use Rattle.frames.specs.Events.{eventReply}
+use Rattle.frames.proofs.EventLaws.{event-refused}
 use borrow.Author.Needs.{needs}
 use Rattle.frames.proofs.start.start.Statement.{statement}
 use Rattle.frames.proofs.start.start.Tie as tie
 
 returns : tie.Need-returns
-returns c =
-    let x = c .before .before .args in
-    answered-refused (x .hub) (stateAfterEvent (x .hub) (startEvent (x .port) (x .bits))) (x .buf .now) (x .place) 1
-    (start-above (x .hub) (x .port) (length (x .buf .now)) (x .place) (x .bits) (c .if1 .taken))
+unfolding eventReply
+returns c = rw (lt-ltb 3 _ (c .if1 .taken)) event-refused
 
 from-bits-requires : tie.Need-from-bits-requires
 from-bits-requires c κs = search needs
 
-enum-told : tie.Need-enum-told
-enum-told c = search needs
-
 enum-known-format : tie.Need-enum-known-format
 enum-known-format c = search needs
 
-start-as-requires : tie.Need-start-as-requires
-start-as-requires c κs = search needs
+enum-told : tie.Need-enum-told
+enum-told c = search needs
 
 returns-2 : tie.Need-returns-2
+unfolding eventReply
 returns-2 c =
+    let b = c .before .before in
+    rw (le-ltb 3 _ (b .before .if1 .left), ← b .from-bits .ensures, c .enum-told .given .1) event-refused
+
+port-frames-requires : tie.Need-port-frames-requires
+port-frames-requires c κs = search needs
+
+is-open-requires : tie.Need-is-open-requires
+is-open-requires c κs = search needs
+
+returns-3 : tie.Need-returns-3
+unfolding eventReply
+returns-3 c =
     let f = c .before .before in
-    let x = f .before .before .before .args in
-    answered-refused (x .hub) (stateAfterEvent (x .hub) (startEvent (x .port) (x .bits))) (x .buf .now) (x .place) 3
-    (start-below (x .hub) (x .port) (length (x .buf .now)) (x .place) (x .bits) (f .before .if1 .left)
-    ∙ ap (λ (r : Reply Format). startWith (x .hub) (x .port) r (length (x .buf .now)) (x .place)) (sym (f .from-bits .ensures) ∙ ap formatReply (c .enum-told .given .1))
-    ∙ start-unknown (x .hub) (x .port) (length (x .buf .now)) (x .place) 3)
+    let g = f .before .before in
+    let b = g .before .before in
+    rw (le-ltb 3 _ (b .before .if1 .left), ← b .from-bits .ensures, g .format .given .1, ← f .port-frames .ensures, ← c .before .is-open .ensures, c .if2 .taken)
+    event-refused
+
+start-number-requires : tie.Need-start-number-requires
+start-number-requires c κs = search needs
+
+with-port-frames-requires : tie.Need-with-port-frames-requires
+with-port-frames-requires c κs = search needs
+
+put-sync-requires : tie.Need-put-sync-requires
+put-sync-requires c κs = search needs
 
 same-length : tie.Need-same-length
 same-length c = search needs
 
-returns-3 : tie.Need-returns-3
-returns-3 c =
-    let a = c .before .before in
-    let g = a .before .before .before in
-    let f = g .before .before in
-    let x = f .before .before .before .args in
-    let known = sym (ap formatReply (g .format .given .1)) ∙ f .from-bits .ensures in
-    answered-so (x .hub) (x .buf .now) (x .place)
-    (start-below (x .hub) (x .port) (length (x .buf .now)) (x .place) (x .bits) (f .before .if1 .left)
-    ∙ ap (λ (r : Reply Format). startWith (x .hub) (x .port) r (length (x .buf .now)) (x .place)) (sym known))
-    (ap (openedWith (x .hub) (x .port)) known) (a .start-as .ensures)
+returns-4 : tie.Need-returns-4
+unfolding eventReply
+returns-4 c =
+    let p = c .before .before in
+    let m = p .before .before in
+    let n = m .before in
+    let o = n .before .before in
+    let f = o .before in
+    let g = f .before .before in
+    let b = g .before .before in
+    rw (le-ltb 3 _ (b .before .if1 .left), ← b .from-bits .ensures, g .format .given .1, ← (rw (f .port-frames .ensures) at (o .is-open .ensures)), n .before .if2 .left)
+    (rw (m .with-port-frames .ensures, n .start-number .ensures) at (p .put-sync .ensures))
 
 pub start-spec : {M : Type 1} → statement M
 start-spec =
@@ -59,9 +72,14 @@ start-spec =
     (tie.spec
     returns
     from-bits-requires
-    enum-told
     enum-known-format
-    start-as-requires
+    enum-told
     returns-2
+    port-frames-requires
+    is-open-requires
+    returns-3
+    start-number-requires
+    with-port-frames-requires
+    put-sync-requires
     same-length
-    returns-3)
+    returns-4)

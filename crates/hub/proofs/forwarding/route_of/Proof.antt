@@ -1,7 +1,8 @@
 -- `hub::forwarding::route_of` meets its contract, by the three cases of the definition.
 -- Assumes nothing.
-use mathlib.Core.Path.{sym, _∙_}
-use Rattle.hub.proofs.Routes.{route-refused, route-off, route-output}
+use mathlib.Core.Path.{sym, ap, _∙_}
+use Rattle.laws.specs.Reply.{given}
+use Rattle.hub.proofs.Routes.{route-refused, route-given, route-off, route-output}
 use borrow.Author.Needs.{needs}
 use Rattle.hub.proofs.forwarding.route_of.Statement.{statement}
 use Rattle.hub.proofs.forwarding.route_of.Tie as tie
@@ -19,28 +20,26 @@ is-set-requires : tie.Need-is-set-requires
 is-set-requires c κs = search needs
 
 returns-2 : tie.Need-returns-2
-returns-2 c = let b = c .before in sym (route-off _ _ (b .before .before .before .if1 .left) (sym (b .is-set .ensures) ∙ c .if2 .taken))
+returns-2 c =
+    let b = c .before in
+    sym (route-given _ _ (b .before .before .before .if1 .left)
+    ∙ ap given (route-off _ _ (sym (b .is-set .ensures) ∙ c .if2 .taken)))
 
-mul-page : tie.Need-mul-page
-mul-page c = search needs
+shr-t8 : tie.Need-shr-t8
+shr-t8 c = search needs
 
-add-raw10-vc : tie.Need-add-raw10-vc
-add-raw10-vc c = search needs
+data-identifier-requires : tie.Need-data-identifier-requires
+data-identifier-requires c κs = search needs
 
-element-copy-out-raw10-vc : tie.Need-element-copy-out-raw10-vc
-element-copy-out-raw10-vc c = search needs
-
-add-raw12-vc : tie.Need-add-raw12-vc
-add-raw12-vc c = search needs
-
-element-copy-out-raw12-vc : tie.Need-element-copy-out-raw12-vc
-element-copy-out-raw12-vc c = search needs
-
-shr-t11 : tie.Need-shr-t11
-shr-t11 c = search needs
+data-identifier-requires-2 : tie.Need-data-identifier-requires-2
+data-identifier-requires-2 c κs = search needs
 
 returns-3 : tie.Need-returns-3
-returns-3 c = let b = c .before .before .before in sym (route-output _ _ (b .before .before .before .if1 .left) (sym (b .is-set .ensures) ∙ c .before .before .if2 .left))
+returns-3 c =
+    let b = c .before .before .before in
+    rw (c .before .data-identifier .ensures, c .data-identifier2 .ensures)
+    (sym (route-given _ _ (b .before .before .before .if1 .left)
+    ∙ ap given (route-output _ _ (sym (b .is-set .ensures) ∙ c .before .before .if2 .left))))
 
 pub route-of-spec : {M : Type 1} → statement M
 route-of-spec =
@@ -51,10 +50,7 @@ route-of-spec =
     add-is-set
     is-set-requires
     returns-2
-    mul-page
-    add-raw10-vc
-    element-copy-out-raw10-vc
-    add-raw12-vc
-    element-copy-out-raw12-vc
-    shr-t11
+    shr-t8
+    data-identifier-requires
+    data-identifier-requires-2
     returns-3)

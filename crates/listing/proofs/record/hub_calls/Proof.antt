@@ -1,27 +1,21 @@
--- `listing::record::hub_calls` meets its contract: a hub, or refusal 2.
+-- `listing::record::hub_calls` meets its contract: no calls, or refusal 2.
 -- Assumes nothing.
+use mathlib.Core.Path.{sym}
 use borrow.Author.Needs.{needs}
-use mathlib.Core.Path.{refl, sym}
-use Rattle.listing.specs.Listing.{recordCalls}
+use Rattle.listing.specs.Listing.{callsAsked}
 use Rattle.listing.proofs.record.hub_calls.Statement.{statement}
 use Rattle.listing.proofs.record.hub_calls.Tie as tie
 
-new-requires : tie.Need-new-requires
-new-requires c κs = search needs
-
-enum-told : tie.Need-enum-told
-enum-told c = search needs
-
-enum-told-2 : tie.Need-enum-told-2
-enum-told-2 c = search needs
+is-hub-address-requires : tie.Need-is-hub-address-requires
+is-hub-address-requires c κs = search needs
 
 returns : tie.Need-returns
-unfolding recordCalls
-returns c = (rw (sym (c .before .before .new .ensures .0), c .enum-told .given .1), refl)
+unfolding callsAsked
+returns c = rw (sym (c .before .is-hub-address .ensures), c .if1 .taken)
 
 returns-2 : tie.Need-returns-2
-unfolding recordCalls
-returns-2 c = (rw (sym (c .before .before .new .ensures .0), c .enum-told2 .given .1), refl)
+unfolding callsAsked
+returns-2 c = rw (sym (c .before .is-hub-address .ensures), c .if1 .left)
 
 pub hub-calls-spec : {M : Type 1} → statement M
-hub-calls-spec = tie.close (tie.spec new-requires enum-told enum-told-2 returns returns-2)
+hub-calls-spec = tie.close (tie.spec is-hub-address-requires returns returns-2)

@@ -1,7 +1,11 @@
 -- `listing::text::call_line` meets its contract: the four digits in their places.
 -- Assumes nothing.
+use mathlib.Core.Path.{_≡_}
+use Prim.Native.Nat.{_/_, _%_}
+use native.Mathlib.Omega.{arith}
 use borrow.Author.Needs.{needs}
-use Rattle.listing.specs.Listing.{lowercaseByte, callText}
+use Rattle.buffers.specs.Numerals.{lowercaseByte}
+use Rattle.listing.specs.Listing.{callText}
 use Rattle.listing.proofs.text.call_line.Statement.{statement}
 use Rattle.listing.proofs.text.call_line.Tie as tie
 
@@ -32,11 +36,17 @@ array-write-line-4 c = search needs
 returns : tie.Need-returns
 unfolding lowercaseByte callText
 returns c =
+    let first = c .before .before .before in
+    let x = first .before .before .before .args in
+    let high : x .offset / 16 % 16 ≡ x .offset / 16 = omega arith in
+    let higher : x .value / 16 % 16 ≡ x .value / 16 = omega arith in
     rw (
-      c .before .before .before .lowercase-digit .ensures,
+      first .lowercase-digit .ensures,
       c .before .before .lowercase-digit2 .ensures,
       c .before .lowercase-digit3 .ensures,
       c .lowercase-digit4 .ensures,
+      high,
+      higher,
     )
 
 pub call-line-spec : {M : Type 1} → statement M

@@ -1,36 +1,29 @@
--- `listing::text::put_burst` meets its contract. The loop's invariant: with the lines that are still to be put, the buffer is as it is to be.
+-- `listing::text::put_burst` meets its contract. The loop's invariant: the lines of the values passed were put.
 -- Assumes nothing.
-use mathlib.Core.Path.{_≡_, refl, sym, ap, _∙_}
-use Prim.Native.Nat.{ℕ, _+_, _*_, _-_, _≤_}
-use native.Mathlib.Nat.{add-zero}
+use mathlib.Core.Path.{_≡_, refl, _∙_}
+use mathlib.Core.List.{List, [], _++_, append-assoc, append-nil}
+use Prim.Native.Nat.{ℕ, _-_, _≤_}
 use native.Mathlib.Omega.{arith}
-use lib.ListN.{length, drop}
+use lib.ListN.{length, getD, drop}
 use borrow.Author.Needs.{needs}
-use Rattle.laws.specs.Buffers.{written}
-use Rattle.laws.proofs.Buffers.{written-nil}
-use Rattle.listing.specs.Listing.{callsText, burstCalls}
-use Rattle.listing.proofs.TextLaws.{burst-end, line-put}
+use Rattle.buffers.specs.Putting.{Puts}
+use Rattle.buffers.proofs.PutLaws.{put-nothing, put-then, puts-length}
+use Rattle.registers.specs.Bursts.{burstWrites}
+use Rattle.listing.specs.Listing.{callText, callsText}
+use Rattle.listing.proofs.TextLaws.{burst-line, burst-end}
 use Rattle.listing.proofs.text.put_burst.Statement.{statement}
 use Rattle.listing.proofs.text.put_burst.Tie as tie
 
 abbrev Inv-loop : tie.InvT-loop
-Inv-loop out₀ at offset values next₀ i₀ out next i =
-    (i ≤ length values) × (length out ≡ length out₀)
-    × (written out (at + 20 * i) (callsText (burstCalls next (drop i values))) ≡ written out₀ at (callsText (burstCalls offset values)))
+Inv-loop out₀ at offset values place₀ next₀ i₀ out place next i =
+    (i ≤ length values)
+    × ((done : List ℕ) × Puts out₀ at done out place × (callsText (burstWrites offset values) ≡ done ++ callsText (burstWrites next (drop i values))))
 
 abbrev μ-loop : tie.MeasureT-loop
-μ-loop out₀ at offset values next₀ i₀ out next i = length values - i
+μ-loop out₀ at offset values place₀ next₀ i₀ out place next i = length values - i
 
 loop-holds : tie.Need-loop-holds Inv-loop μ-loop
-loop-holds c =
-    let x = c .before .before .args in
-    (omega arith, refl, ap (λ (place : ℕ). written (x .out .now) place (callsText (burstCalls (x .offset) (x .values .now)))) (add-zero (x .at)))
-
-mul-put-call : tie.Need-mul-put-call Inv-loop μ-loop
-mul-put-call c = search needs
-
-add-put-call : tie.Need-add-put-call Inv-loop μ-loop
-add-put-call c = search needs
+loop-holds c = let x = c .before .before .args in (omega arith, ([], put-nothing (x .out .now) (x .at), refl))
 
 shared-slice-read-put-call : tie.Need-shared-slice-read-put-call Inv-loop μ-loop
 shared-slice-read-put-call c = search needs
@@ -51,22 +44,25 @@ loop-again : tie.Need-loop-again Inv-loop μ-loop
 loop-again c =
     let put = c .before .before .before in
     let l = put .before .before .before .before .loop in
-    let x = put .before .before .before .before .before .before .before .args in (
+    let values = put .before .before .before .before .before .before .before .args .values .now in
+    let done = l .inv .1 in
+    let line = callText (record { offset = l .next; value = getD values (l .i) 0 }) in (
       omega arith,
-      put .put-call .kept .0 ∙ l .inv .1,
-      line-put (l .out) (x .at) (l .next) (x .values .now) (l .i) (omega arith) (omega arith) (put .put-call .ensures) (c .wrapping-add-u8 .ensures) ∙ l .inv .2,
+      (
+        done .0 ++ line,
+        put-then (done .1) (put .put-call .ensures),
+        done .2 ∙ rw (burst-line (l .next) values (l .i) (omega arith), c .wrapping-add-u8 .ensures, append-assoc),
+      ),
     )
 
 same-length : tie.Need-same-length Inv-loop μ-loop
-same-length c = search needs
+same-length c = puts-length (c .before .loop .inv .1 .1)
 
 returns : tie.Need-returns Inv-loop μ-loop
 returns c =
     let l = c .before .loop in
-    let x = c .before .before .before .before .args in
-    sym (written-nil (l .out) (x .at + 20 * l .i))
-    ∙ ap (written (l .out) (x .at + 20 * l .i)) (sym (burst-end (l .next) (x .values .now) (l .i) (omega arith)))
-    ∙ l .inv .2
+    let values = c .before .before .before .before .args .values .now in
+    rw (l .inv .1 .2, burst-end (l .next) values (l .i) (omega arith), append-nil) (l .inv .1 .1)
 
 pub put-burst-spec : {M : Type 1} → statement M
 put-burst-spec =
@@ -75,8 +71,6 @@ put-burst-spec =
     Inv-loop
     μ-loop
     loop-holds
-    mul-put-call
-    add-put-call
     shared-slice-read-put-call
     put-call-requires
     wrapping-add-u8-requires

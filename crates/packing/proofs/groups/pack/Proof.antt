@@ -1,6 +1,5 @@
 -- `packing::groups::pack` meets its contract, for each format.
 -- Assumes nothing.
-use lib.ListN.{length}
 use Rattle.formats.specs.declared.Format.the-variants.{Raw10, Raw12}
 use Rattle.packing.proofs.RawLaws.{groups-whole}
 use borrow.Author.Needs.{needs}
@@ -14,9 +13,7 @@ least-of-requires : tie.Need-least-of-requires
 least-of-requires c κs = search needs
 
 pack-raw10-requires : tie.Need-pack-raw10-requires
-pack-raw10-requires c κs =
-    let x = c .before .before .before .before .before .before .args in
-    rw (c .least-of .ensures) (groups-whole (x .pixels .now) (length (x .part .now)) Raw10)
+pack-raw10-requires c κs = rw (c .least-of .ensures) (groups-whole Raw10 _ _)
 
 enum-told-2 : tie.Need-enum-told-2
 enum-told-2 c = search needs
@@ -25,9 +22,7 @@ least-of-requires-2 : tie.Need-least-of-requires-2
 least-of-requires-2 c κs = search needs
 
 pack-raw12-requires : tie.Need-pack-raw12-requires
-pack-raw12-requires c κs =
-    let x = c .before .before .before .before .before .before .args in
-    rw (c .least-of2 .ensures) (groups-whole (x .pixels .now) (length (x .part .now)) Raw12)
+pack-raw12-requires c κs = rw (c .least-of2 .ensures) (groups-whole Raw12 _ _)
 
 same-length : tie.Need-same-length
 same-length c = search needs

@@ -8,8 +8,6 @@ use lib.Seq.{length-take-le}
 use borrow.Rule.Slice.PartMut.{midOf}
 use Rattle.laws.specs.Buffers.{written}
 use Rattle.laws.proofs.Buffers.{written-nil, lent-written}
-use Rattle.packing.specs.Raw.{packGroups}
-use Rattle.packing.specs.Lengths.{groupsInRoom}
 use Rattle.packing.proofs.RawLaws.{packed-fits, none-packed}
 use borrow.Author.Needs.{needs}
 use Rattle.packing.proofs.groups.pack_groups.Statement.{statement}
@@ -36,17 +34,15 @@ returns c =
     let x = p .before .before .before .before .before .args in
     let d = x .buf .now in
     let room = length d - x .place in
-    let bytes = packGroups (x .format) (groupsInRoom (x .format) (length (x .pixels .now)) room) (x .pixels .now) in
     let l : length (midOf (x .place) room d) ≡ room = length-take-le room (drop (x .place) d) (let k = length-drop (x .place) d in omega arith) in
-    let fits = packed-fits (x .pixels .now) room (x .format) in
-    lent-written d _ bytes (x .place) (omega arith) (rw l at (p .pack .ensures))
+    let fits = packed-fits (x .format) (x .pixels .now) room in
+    lent-written d _ _ (x .place) (omega arith) (rw l at (p .pack .ensures))
 
 returns-2 : tie.Need-returns-2
 returns-2 c =
     let x = c .before .before .before .args in
-    let d = x .buf .now in
-    let none : length d - x .place ≡ 0 = omega arith in
-    sym (ap (written d (x .place)) (none-packed (x .pixels .now) (length d - x .place) (x .format) none) ∙ written-nil d (x .place))
+    let none : length (x .buf .now) - x .place ≡ 0 = omega arith in
+    sym (ap (written (x .buf .now) (x .place)) (none-packed (x .format) (x .pixels .now) _ none) ∙ written-nil (x .buf .now) (x .place))
 
 pub pack-groups-spec : {M : Type 1} → statement M
 pack-groups-spec =

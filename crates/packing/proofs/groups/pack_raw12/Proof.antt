@@ -1,28 +1,24 @@
 -- `packing::groups::pack_raw12` meets its contract. The loop's invariant: the part holds the first g groups.
 -- Assumes nothing.
-use mathlib.Core.Path.{_≡_, refl, sym, ap, _∙_}
-use Prim.Native.Nat.{ℕ, _-_, _≤_}
-use lib.ListN.{length}
-use Rattle.laws.specs.Buffers.{written}
-use Rattle.laws.specs.Groups.{groups}
-use Rattle.laws.proofs.Buffers.{written-nil}
-use Rattle.formats.specs.declared.Format.the-variants.{Raw12}
-use Rattle.packing.specs.Raw.{packGroups}
-use Rattle.packing.proofs.RawLaws.{two-more}
-use borrow.Author.Needs.{needs}
+use Prim.Native.Nat.{_-_}
+use native.Mathlib.Numerals.{towards-suc}
 use native.Mathlib.Omega.{arith}
+use Rattle.formats.specs.declared.Format.the-variants.{Raw12}
+use Rattle.packing.specs.Raw.{packGroup}
+use Rattle.laws.proofs.GroupLoops.{Stored, stored-none, stored-more, stored-all}
+use Rattle.packing.proofs.RawLaws.{length-group}
+use borrow.Author.Needs.{needs}
 use Rattle.packing.proofs.groups.pack_raw12.Statement.{statement}
 use Rattle.packing.proofs.groups.pack_raw12.Tie as tie
 
 abbrev Inv-loop : tie.InvT-loop
-Inv-loop pixels part₀ count g₀ part g = (g ≤ count) × (length part ≡ length part₀) × (part ≡ written part₀ 0 (packGroups Raw12 g pixels))
+Inv-loop pixels part₀ count g₀ part g = Stored 2 (packGroup Raw12) pixels part₀ count g part
 
 abbrev μ-loop : tie.MeasureT-loop
 μ-loop pixels part₀ count g₀ part g = count - g
 
 loop-holds : tie.Need-loop-holds Inv-loop μ-loop
-unfolding groups
-loop-holds c = (omega arith, refl, sym (written-nil _ 0))
+loop-holds c = stored-none _ _ _ _ _
 
 mul-i : tie.Need-mul-i Inv-loop μ-loop
 mul-i c = search needs
@@ -57,23 +53,15 @@ loop-less c = search needs
 loop-again : tie.Need-loop-again Inv-loop μ-loop
 loop-again c =
     let a = c .before .before .before .before .before .before .before in
-    let l = a .loop in
     let s = a .before .before .before in
-    let f = c .before .before .put-two in (
-      omega arith,
-      f .kept .0 ∙ l .inv .1,
-      two-more (s .args .pixels .now) (s .args .part .now) (l .part) _ (l .g) (s .args .count) (omega arith) (s .pre .0) (s .pre .1) (l .inv .2) (f .ensures),
-    )
+    let f = c .before .before .put-two in
+    stored-more (length-group Raw12) (s .pre .0) (s .pre .1) (omega arith) (a .loop .inv) (f .kept .0) (simp towards-suc at (f .ensures))
 
 same-length : tie.Need-same-length Inv-loop μ-loop
-same-length c = c .before .loop .inv .1
+same-length c = c .before .loop .inv .same
 
 returns : tie.Need-returns Inv-loop μ-loop
-returns c =
-    let l = c .before .loop in
-    let x = c .before .before .before .before .args in
-    let done : l .g ≡ x .count = omega arith in
-    l .inv .2 ∙ ap (λ (n : ℕ). written (x .part .now) 0 (packGroups Raw12 n (x .pixels .now))) done
+returns c = stored-all (c .before .loop .inv) (omega arith)
 
 pub pack-raw12-spec : {M : Type 1} → statement M
 pack-raw12-spec =

@@ -1,15 +1,15 @@
--- `packing::groups::put_four` meets its contract: five stores, one behind the other.
+-- `packing::groups::put_four` meets its contract: five stores, one after the other.
 -- Assumes nothing.
-use mathlib.Core.Path.{_≡_, ap, _∙_}
+use mathlib.Core.Path.{_≡_}
 use mathlib.Core.List.{[], _∷_}
-use Prim.Native.Nat.{ℕ, _+_, _*_, _/_, _%_}
+use Prim.Native.Nat.{_+_, _*_, _%_}
+use native.Mathlib.Numerals.{add-one, add-two, add-three, add-four}
+use native.Mathlib.Omega.{arith}
 use lib.ListN.{length-set}
-use Rattle.laws.specs.Buffers.{written}
+use Rattle.laws.proofs.Buffers.{written-sets}
 use Rattle.formats.specs.declared.Format.the-variants.{Raw10}
 use Rattle.packing.specs.Raw.{lowByte, packGroup}
-use Rattle.packing.proofs.RawLaws.{four-stored}
 use borrow.Author.Needs.{needs}
-use native.Mathlib.Omega.{arith}
 use Rattle.packing.proofs.groups.put_four.Statement.{statement}
 use Rattle.packing.proofs.groups.put_four.Tie as tie
 
@@ -81,8 +81,7 @@ unfolding packGroup
 returns c =
     let x = c .args in
     let low : x .a % 4 + 4 * (x .b % 4) + 16 * (x .c % 4) + 64 * (x .d % 4) ≡ lowByte Raw10 (x .a ∷ x .b ∷ x .c ∷ x .d ∷ []) = omega arith in
-    four-stored (x .part .now) (x .o) _ _ _ _ _ (c .pre)
-    ∙ ap (λ (l : ℕ). written (x .part .now) (x .o) (x .a / 4 % 256 ∷ x .b / 4 % 256 ∷ x .c / 4 % 256 ∷ x .d / 4 % 256 ∷ l ∷ [])) low
+    simp (low, add-one, add-two, add-three, add-four) (written-sets (x .part .now) (x .o) (packGroup Raw10 (x .a ∷ x .b ∷ x .c ∷ x .d ∷ [])) (c .pre))
 
 pub put-four-spec : {M : Type 1} → statement M
 put-four-spec =

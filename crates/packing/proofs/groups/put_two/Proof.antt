@@ -1,15 +1,15 @@
--- `packing::groups::put_two` meets its contract: three stores, one behind the other.
+-- `packing::groups::put_two` meets its contract: three stores, one after the other.
 -- Assumes nothing.
-use mathlib.Core.Path.{_≡_, ap, _∙_}
+use mathlib.Core.Path.{_≡_}
 use mathlib.Core.List.{[], _∷_}
-use Prim.Native.Nat.{ℕ, _+_, _*_, _/_, _%_}
+use Prim.Native.Nat.{_+_, _*_, _%_}
+use native.Mathlib.Numerals.{add-one, add-two}
+use native.Mathlib.Omega.{arith}
 use lib.ListN.{length-set}
-use Rattle.laws.specs.Buffers.{written}
+use Rattle.laws.proofs.Buffers.{written-sets}
 use Rattle.formats.specs.declared.Format.the-variants.{Raw12}
 use Rattle.packing.specs.Raw.{lowByte, packGroup}
-use Rattle.packing.proofs.RawLaws.{two-stored}
 use borrow.Author.Needs.{needs}
-use native.Mathlib.Omega.{arith}
 use Rattle.packing.proofs.groups.put_two.Statement.{statement}
 use Rattle.packing.proofs.groups.put_two.Tie as tie
 
@@ -51,8 +51,7 @@ unfolding packGroup
 returns c =
     let x = c .args in
     let low : x .a % 16 + 16 * (x .b % 16) ≡ lowByte Raw12 (x .a ∷ x .b ∷ []) = omega arith in
-    two-stored (x .part .now) (x .o) _ _ _ (c .pre)
-    ∙ ap (λ (l : ℕ). written (x .part .now) (x .o) (x .a / 16 % 256 ∷ x .b / 16 % 256 ∷ l ∷ [])) low
+    simp (low, add-one, add-two) (written-sets (x .part .now) (x .o) (packGroup Raw12 (x .a ∷ x .b ∷ [])) (c .pre))
 
 pub put-two-spec : {M : Type 1} → statement M
 put-two-spec =

@@ -4,7 +4,7 @@ use mathlib.Core.Path.{_≡_, refl}
 use mathlib.Core.Bool.{Bool, true, false, cond}
 use mir.Val.{boolByte}
 use Rattle.laws.specs.Reply.{isRefused}
-use Rattle.answers.specs.Lines.{answerReply}
+use Rattle.answers.specs.Answers.{answerReply}
 use Rattle.playback.specs.Windows.{sessionAfter}
 use borrow.Author.Needs.{needs}
 use Rattle.playback.proofs.window.session_after.Statement.{statement}
@@ -31,7 +31,7 @@ returns : tie.Need-returns
 unfolding sessionAfter
 returns c =
     let told = c .before .before in
-    rw (c .before .wrapping-add-u64 .ensures, c .wrapping-add-u642 .ensures, told .is-refused .ensures, as-number (isRefused (answerReply (told .before .before .args .played .answer))))
+    λ packets. rw (c .before .wrapping-add-u64 .ensures, c .wrapping-add-u642 .ensures, told .is-refused .ensures, as-number (isRefused (answerReply (told .before .before .args .played .answer))))
 
 pub session-after-spec : {M : Type 1} → statement M
 session-after-spec =

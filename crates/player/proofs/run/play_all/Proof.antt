@@ -1,27 +1,27 @@
--- `player::run::play_all` meets its contract. The loop's invariant: what the window holds is inside it.
+-- `player::run::play_all` meets its contract. The loop's invariant: the lent buffers keep their lengths.
 -- Assumes nothing.
 use mathlib.Core.Path.{_≡_, refl, _∙_}
-use Prim.Native.Nat.{_≤_}
-use native.Mathlib.Omega.{arith}
 use borrow.Author.Needs.{needs}
 use lib.ListN.{length}
 use Rattle.player.proofs.run.play_all.Statement.{statement}
 use Rattle.player.proofs.run.play_all.Tie as tie
+use Rattle.turns.proofs.new_run.Reads as new-run-reads
 
 abbrev Inv-loop : tie.InvT-loop
-Inv-loop fd path window₀ packets₀ out₀ run₀ turns₀ window packets out run turns = (run .held ≤ length window) × (length window ≡ length window₀) × (length packets ≡ length packets₀) × (length out ≡ length out₀)
+Inv-loop fd path window₀ packets₀ out₀ run₀ over₀ turns₀ window packets out run over turns =
+    (length window ≡ length window₀) × (length packets ≡ length packets₀) × (length out ≡ length out₀)
 
 abbrev μ-loop : tie.MeasureT-loop
-μ-loop fd path window₀ packets₀ out₀ run₀ turns₀ window packets out run turns = turns
+μ-loop fd path window₀ packets₀ out₀ run₀ over₀ turns₀ window packets out run over turns = turns
 
-new-requires : tie.Need-new-requires Inv-loop μ-loop
-new-requires c κs = search needs
+new-run-requires : tie.Need-new-run-requires Inv-loop μ-loop
+new-run-requires c κs = search needs
 
 loop-holds : tie.Need-loop-holds Inv-loop μ-loop
-loop-holds c = (omega arith, refl, refl, refl)
+loop-holds c = (refl, refl, refl)
 
-turn-requires : tie.Need-turn-requires Inv-loop μ-loop
-turn-requires c κs = search needs
+take-turn-requires : tie.Need-take-turn-requires Inv-loop μ-loop
+take-turn-requires c κs = search needs
 
 sub-turns : tie.Need-sub-turns Inv-loop μ-loop
 sub-turns c = search needs
@@ -31,30 +31,30 @@ loop-less c = search needs
 
 loop-again : tie.Need-loop-again Inv-loop μ-loop
 loop-again c =
-    let turned = c .before .before .before .before .before .before in
-    let l = turned .before .before .before .before .before .before .before .loop in
-    (turned .turn .ensures .inside, turned .turn .kept .1 .1 .1 .0 ∙ l .inv .1, turned .turn .kept .1 .1 .1 .1 .0 ∙ l .inv .2, turned .turn .kept .1 .1 .1 .1 .1 .0 ∙ l .inv .3)
+    let turned = c .before .before .before .before .before .before .before in
+    let l = turned .before .before .before .before .before .before .loop in
+    (turned .take-turn .kept .1 .1 .1 .0 ∙ l .inv .0, turned .take-turn .kept .1 .1 .1 .1 .0 ∙ l .inv .1, turned .take-turn .kept .1 .1 .1 .1 .1 .0 ∙ l .inv .2)
 
 same-length : tie.Need-same-length Inv-loop μ-loop
-same-length c = c .before .before .before .loop .inv .1
+same-length c = c .before .before .loop .inv .0
 
 same-length-2 : tie.Need-same-length-2 Inv-loop μ-loop
-same-length-2 c = c .before .before .before .loop .inv .2
+same-length-2 c = c .before .before .loop .inv .1
 
 same-length-3 : tie.Need-same-length-3 Inv-loop μ-loop
-same-length-3 c = c .before .before .before .loop .inv .3
+same-length-3 c = c .before .before .loop .inv .2
 
 returns : tie.Need-returns Inv-loop μ-loop
 returns c = search needs
 
 same-length-4 : tie.Need-same-length-4 Inv-loop μ-loop
-same-length-4 c = c .before .loop .inv .1
+same-length-4 c = c .before .loop .inv .0
 
 same-length-5 : tie.Need-same-length-5 Inv-loop μ-loop
-same-length-5 c = c .before .loop .inv .2
+same-length-5 c = c .before .loop .inv .1
 
 same-length-6 : tie.Need-same-length-6 Inv-loop μ-loop
-same-length-6 c = c .before .loop .inv .3
+same-length-6 c = c .before .loop .inv .2
 
 returns-2 : tie.Need-returns-2 Inv-loop μ-loop
 returns-2 c = search needs
@@ -65,9 +65,9 @@ play-all-spec =
     (tie.spec
     Inv-loop
     μ-loop
-    new-requires
+    new-run-requires
     loop-holds
-    turn-requires
+    take-turn-requires
     sub-turns
     loop-less
     loop-again

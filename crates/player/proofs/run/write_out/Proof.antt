@@ -7,7 +7,7 @@ use Rattle.player.proofs.run.write_out.Statement.{statement}
 use Rattle.player.proofs.run.write_out.Tie as tie
 
 slice-aggregate-write-all : tie.Need-slice-aggregate-write-all
-slice-aggregate-write-all c = let x = c .before .before .args in sym (length-take-le (x .end) (x .text .now) (c .before .before .pre))
+slice-aggregate-write-all c = let start = c .before .before in sym (length-take-le (start .args .end) (start .args .text .now) (start .pre))
 
 write-all-requires : tie.Need-write-all-requires
 write-all-requires c κs = search needs

@@ -1,77 +1,73 @@
--- `script::records::put_calls` meets its contract. The loop's invariant: the records of the lines passed are put.
+-- `script::records::put_calls` meets its contract. The loop's invariant: the records of the calls of the lines passed were put.
 -- Assumes nothing.
-use Prim.Native.Nat.{_-_, _≤_}
+use mathlib.Core.List.{List, [], _∷_, _++_}
+use Prim.Native.Nat.{ℕ, suc, _+_, _-_, _≤_, _<_}
 use native.Mathlib.Omega.{arith}
+use types.Run.{miss}
 use borrow.Author.Needs.{needs}
-use lib.ListN.{length, length-drop}
-use Rattle.script.specs.Contracts.{callsIn}
-use Rattle.script.proofs.RecordPuts.{Putting, putting-none, putting-good, putting-room, putting-more, putting-all}
+use lib.ListN.{length, drop, length-drop}
+use Rattle.laws.proofs.Replies.{refused-given, given-same}
+use Rattle.buffers.specs.Putting.{Puts}
+use Rattle.buffers.proofs.PutLaws.{put-nothing, put-then, puts-length}
+use Rattle.registers.specs.Bursts.{RegisterWrite}
+use Rattle.script.specs.Traces.{writeRecords}
+use Rattle.script.specs.Contracts.{callsIn, TakenScriptLine}
+use Rattle.script.proofs.TextLaws.{next-refused, Passed, passed-none, passed-refused, passed-more, passed-all}
+use Rattle.script.proofs.TraceLaws.{writes-append}
 use Rattle.script.proofs.records.put_calls.Statement.{statement}
 use Rattle.script.proofs.records.put_calls.Tie as tie
 
 abbrev Inv-loop : tie.InvT-loop
-Inv-loop out₀ text at₀ next₀ out at next = (at ≤ length text) × Putting text out₀ at next out
+Inv-loop out₀ at text from₀ next₀ out from next =
+    (from ≤ length text)
+    × ((number : ℕ) × (done : List RegisterWrite) × Passed text from number done × Puts out₀ at (writeRecords done) out next)
 
 abbrev μ-loop : tie.MeasureT-loop
-μ-loop out₀ text at₀ next₀ out at next = length text - at
+μ-loop out₀ at text from₀ next₀ out from next = length text - from
+
+-- what the next line comes to, where it is taken
+taken : (c : tie.After-known-told Inv-loop μ-loop) →
+    let n = c .before .before .before in
+    let line = c .before .length .given .0 in
+    TakenScriptLine (drop (n .before .before .loop .from) (n .before .before .before .before .before .args .text .now)) (line .0) (line .1 .0)
+taken c = rw (c .before .length .given .1) at (c .before .before .before .next-script-line .ensures)
+
+-- it ends inside the text
+inside : (c : tie.After-known-told Inv-loop μ-loop) →
+    let n = c .before .before .before in
+    n .before .before .loop .from + c .before .length .given .0 .0 < length (n .before .before .before .before .before .args .text .now)
+inside c =
+    let n = c .before .before .before in
+    omega (arith, length-drop (n .before .before .loop .from) (n .before .before .before .before .before .args .text .now), taken c .within)
 
 loop-holds : tie.Need-loop-holds Inv-loop μ-loop
-loop-holds c = let s = c .before .before in (omega arith, putting-none (s .args .text .now) (s .args .out .now) (s .pre))
+unfolding writeRecords
+loop-holds c = let x = c .before .before .args in (omega arith, (1, [], passed-none (x .text .now), put-nothing (x .out .now) (x .at)))
 
-next-line-requires : tie.Need-next-line-requires Inv-loop μ-loop
-next-line-requires c κs = search needs
-
-enum-told : tie.Need-enum-told Inv-loop μ-loop
-enum-told c = search needs
-
-same-length : tie.Need-same-length Inv-loop μ-loop
-same-length c = c .before .before .before .before .loop .inv .1 .same
-
-returns : tie.Need-returns Inv-loop μ-loop
-returns c =
-    let n = c .before .before in
-    let l = n .before .before .loop in
-    let x = n .before .before .before .before .before .args in
-    absurd (putting-good (x .text .now) (x .out .now) (l .at) (l .next) (l .out) (l .inv .1) 15 (rw (c .enum-told .given .1) at (n .next-line .ensures)))
-
-enum-told-2 : tie.Need-enum-told-2 Inv-loop μ-loop
-enum-told-2 c = search needs
-
-same-length-2 : tie.Need-same-length-2 Inv-loop μ-loop
-same-length-2 c = c .before .before .before .before .loop .inv .1 .same
-
-returns-2 : tie.Need-returns-2 Inv-loop μ-loop
-returns-2 c =
-    let n = c .before .before in
-    let l = n .before .before .loop in
-    let x = n .before .before .before .before .before .args in
-    absurd (putting-good (x .text .now) (x .out .now) (l .at) (l .next) (l .out) (l .inv .1) 14 (rw (c .enum-told2 .given .1) at (n .next-line .ensures)))
+next-script-line-requires : tie.Need-next-script-line-requires Inv-loop μ-loop
+next-script-line-requires c κs = search needs
 
 enum-known-length : tie.Need-enum-known-length Inv-loop μ-loop
 enum-known-length c = search needs
 
-add-at : tie.Need-add-at Inv-loop μ-loop
-add-at c =
-    let n = c .before .before .before in
-    let l = n .before .before .loop in
-    let text = n .before .before .before .before .before .args .text .now in
-    omega (arith, length-drop (l .at) text, (rw (c .before .length .given .1) at (n .next-line .ensures)) .0)
+same-length : tie.Need-same-length Inv-loop μ-loop
+same-length c = puts-length (c .before .before .before .loop .inv .1 .3)
 
-add-at-2 : tie.Need-add-at-2 Inv-loop μ-loop
-add-at-2 c =
-    let n = c .before .before .before in
-    let l = n .before .before .loop in
-    let text = n .before .before .before .before .before .args .text .now in
-    omega (arith, length-drop (l .at) text, (rw (c .before .length .given .1) at (n .next-line .ensures)) .0)
+returns : tie.Need-returns Inv-loop μ-loop
+returns c calls e =
+    let n = c .before in
+    let p = n .before .before .loop .inv .1 in
+    let wrong = next-refused _ (n .next-script-line .result) (n .next-script-line .ensures) (λ count read q. miss (0 ∷ 1 ∷ []) 2 tt (rw q at (c .match .keys2))) in
+    refused-given (passed-refused (p .2) (wrong .0) (wrong .1 (p .0))) e
+
+add-from : tie.Need-add-from Inv-loop μ-loop
+add-from c = omega (arith, inside c)
+
+add-from-2 : tie.Need-add-from-2 Inv-loop μ-loop
+add-from-2 c = omega (arith, inside c)
 
 put-line-requires : tie.Need-put-line-requires Inv-loop μ-loop
-put-line-requires c κs =
-    let told = c .before .before in
-    let n = told .before .before in
-    let l = n .before .before .loop in
-    let x = n .before .before .before .before .before .args in
-    let line = rw (told .length .given .1) at (n .next-line .ensures) in
-    putting-room (x .text .now) (x .out .now) (l .at) (l .next) (l .out) (l .inv .1) (callsIn (told .length .given .0 .1 .0)) (told .length .given .0 .0) (line .1)
+put-line-requires c κs = search needs
 
 loop-less : tie.Need-loop-less Inv-loop μ-loop
 loop-less c = search needs
@@ -79,26 +75,21 @@ loop-less c = search needs
 loop-again : tie.Need-loop-again Inv-loop μ-loop
 loop-again c =
     let put = c .before .before in
-    let told = put .before .before .before in
-    let n = told .before .before in
-    let l = n .before .before .loop in
-    let x = n .before .before .before .before .before .args in
-    let line = rw (told .length .given .1) at (n .next-line .ensures) in
-    let left = length-drop (l .at) (x .text .now) in
-    let within = line .0 in (
-      omega arith,
-      putting-more (x .text .now) (x .out .now) (l .at) (l .next) (l .out) (l .inv .1) (callsIn (told .length .given .0 .1 .0)) (told .length .given .0 .0) (line .1)
-          (put .put-line .ensures .0) (put .put-line .ensures .1),
-    )
+    let told = put .before .before in
+    let line = told .before .length .given .0 in
+    let p = told .before .before .before .before .before .loop .inv .1 in
+    let here = callsIn (line .1 .0) in
+    let more = passed-more (p .2) here (line .0) (taken told .calls (p .0)) in
+    let within = inside told in
+    (omega arith, (suc (p .0), p .1 ++ here, more, rw (writes-append (p .1) here) (put-then (p .3) (put .put-line .ensures))))
 
-same-length-3 : tie.Need-same-length-3 Inv-loop μ-loop
-same-length-3 c = c .before .loop .inv .1 .same
+same-length-2 : tie.Need-same-length-2 Inv-loop μ-loop
+same-length-2 c = puts-length (c .before .loop .inv .1 .3)
 
-returns-3 : tie.Need-returns-3 Inv-loop μ-loop
-returns-3 c =
-    let l = c .before .loop in
-    let x = c .before .before .before .before .args in
-    putting-all (x .text .now) (x .out .now) (l .at) (l .next) (l .out) (l .inv .1) (omega arith)
+returns-2 : tie.Need-returns-2 Inv-loop μ-loop
+returns-2 c calls e =
+    let p = c .before .loop .inv .1 in
+    rw (given-same e (passed-all (p .2) (omega arith))) (p .3)
 
 pub put-calls-spec : {M : Type 1} → statement M
 put-calls-spec =
@@ -107,18 +98,14 @@ put-calls-spec =
     Inv-loop
     μ-loop
     loop-holds
-    next-line-requires
-    enum-told
+    next-script-line-requires
+    enum-known-length
     same-length
     returns
-    enum-told-2
-    same-length-2
-    returns-2
-    enum-known-length
-    add-at
-    add-at-2
+    add-from
+    add-from-2
     put-line-requires
     loop-less
     loop-again
-    same-length-3
-    returns-3)
+    same-length-2
+    returns-2)

@@ -1,12 +1,16 @@
--- `unpacking::groups::put_four` meets its contract: four stores of a word, one behind the other.
+-- `unpacking::groups::put_four` meets its contract: four stores of a word, one after the other.
 -- Assumes nothing.
-use mathlib.Core.Path.{ap, _∙_}
-use Prim.Native.Nat.{ℕ, _+_, _*_}
+use mathlib.Core.Path.{_≡_, sym}
+use mathlib.Core.List.{[], _∷_}
+use Prim.Native.Nat.{_+_, _*_}
+use native.Mathlib.Numerals.{add-one, add-two, add-three}
 use native.Mathlib.Omega.{arith}
 use lib.ListN.{length-set}
-use Rattle.laws.specs.Buffers.{written}
+use Rattle.laws.proofs.Buffers.{written-sets}
+use Rattle.formats.specs.declared.Format.the-variants.{Raw10}
+use Rattle.unpacking.specs.Pixels.{unpackGroup}
 use Rattle.unpacking.specs.Words.{word}
-use Rattle.unpacking.proofs.StoreLaws.{four-stored, numbersIn, gathered}
+use Rattle.unpacking.proofs.WordLaws.{numbersIn, gathered}
 use borrow.Author.Needs.{needs}
 use Rattle.unpacking.proofs.groups.put_four.Statement.{statement}
 use Rattle.unpacking.proofs.groups.put_four.Tie as tie
@@ -89,10 +93,10 @@ same-length c = search needs
 returns : tie.Need-returns
 returns c =
     let x = c .before .before .args in
-    let upper = word (x .a) (x .b) (x .c) (x .d) in
-    four-stored (x .pixels .now) (x .o) _ _ _ _ (c .before .before .pre)
-    ∙ ap (λ (pairs : ℕ). written (x .pixels .now) (x .o) (numbersIn (4 * upper + pairs))) (c .spread-pairs .ensures .0)
-    ∙ ap (written (x .pixels .now) (x .o)) (gathered (x .a) (x .b) (x .c) (x .d) (x .low) (omega arith) (omega arith) (omega arith) (omega arith) (omega arith))
+    let word = 4 * word (x .a) (x .b) (x .c) (x .d) + c .spread-pairs .result in
+    let pixels : numbersIn word ≡ unpackGroup Raw10 (x .a ∷ x .b ∷ x .c ∷ x .d ∷ x .low ∷ []) =
+    rw (c .spread-pairs .ensures .0) (gathered (x .a) (x .b) (x .c) (x .d) (x .low) (omega arith) (omega arith) (omega arith) (omega arith) (omega arith)) in
+    rw (sym pixels) (simp (add-one, add-two, add-three) (written-sets (x .pixels .now) (x .o) (numbersIn word) (c .before .before .pre)))
 
 pub put-four-spec : {M : Type 1} → statement M
 put-four-spec =

@@ -1,9 +1,14 @@
--- `unpacking::groups::put_two` meets its contract: two stores, one behind the other.
+-- `unpacking::groups::put_two` meets its contract: two stores, one after the other.
 -- Assumes nothing.
+use mathlib.Core.Path.{_≡_}
+use mathlib.Core.List.{[], _∷_}
+use Prim.Native.Nat.{_/_, _%_}
+use native.Mathlib.Numerals.{add-one}
 use native.Mathlib.Omega.{arith}
 use lib.ListN.{length-set}
+use Rattle.laws.proofs.Buffers.{written-sets}
+use Rattle.formats.specs.declared.Format.the-variants.{Raw12}
 use Rattle.unpacking.specs.Pixels.{unpackGroup}
-use Rattle.unpacking.proofs.StoreLaws.{two-stored}
 use borrow.Author.Needs.{needs}
 use Rattle.unpacking.proofs.groups.put_two.Statement.{statement}
 use Rattle.unpacking.proofs.groups.put_two.Tie as tie
@@ -46,7 +51,10 @@ same-length c = search needs
 
 returns : tie.Need-returns
 unfolding unpackGroup
-returns c = let x = c .args in two-stored (x .pixels .now) (x .o) _ _ _ _ (c .pre) (omega arith) (omega arith)
+returns c =
+    let x = c .args in
+    let high : x .low / 16 % 16 ≡ x .low / 16 = omega arith in
+    simp (add-one, high) (rw high at (written-sets (x .pixels .now) (x .o) (unpackGroup Raw12 (x .a ∷ x .b ∷ x .low ∷ [])) (c .pre)))
 
 pub put-two-spec : {M : Type 1} → statement M
 put-two-spec =

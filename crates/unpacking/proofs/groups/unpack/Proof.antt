@@ -1,10 +1,5 @@
 -- `unpacking::groups::unpack` meets its contract, for each format.
 -- Assumes nothing.
-use mathlib.Core.Path.{subst}
-use Prim.Native.Nat.{_*_, _/_, _≤_}
-use lib.ListN.{length}
-use Rattle.formats.specs.declared.Format.{Format}
-use Rattle.packing.specs.Raw.{groupPixels, groupBytes}
 use borrow.Author.Needs.{needs}
 use Rattle.unpacking.proofs.groups.unpack.Statement.{statement}
 use Rattle.unpacking.proofs.groups.unpack.Tie as tie
@@ -13,17 +8,13 @@ enum-told : tie.Need-enum-told
 enum-told c = search needs
 
 unpack-raw10-requires : tie.Need-unpack-raw10-requires
-unpack-raw10-requires c κs =
-    let s = c .before .before .before .before .before in
-    subst (λ (f : Format). length (s .args .payload .now) / groupBytes f * groupPixels f ≤ length (s .args .pixels .now)) (c .before .enum-told .given .1) (s .pre)
+unpack-raw10-requires c κs = rw (c .before .enum-told .given .1) at (c .before .before .before .before .before .pre)
 
 enum-told-2 : tie.Need-enum-told-2
 enum-told-2 c = search needs
 
 unpack-raw12-requires : tie.Need-unpack-raw12-requires
-unpack-raw12-requires c κs =
-    let s = c .before .before .before .before .before in
-    subst (λ (f : Format). length (s .args .payload .now) / groupBytes f * groupPixels f ≤ length (s .args .pixels .now)) (c .before .enum-told2 .given .1) (s .pre)
+unpack-raw12-requires c κs = rw (c .before .enum-told2 .given .1) at (c .before .before .before .before .before .pre)
 
 same-length : tie.Need-same-length
 same-length c = search needs

@@ -1,30 +1,25 @@
 -- `unpacking::groups::unpack_raw10` meets its contract. The loop's invariant: the slice holds the pixels of the first g groups.
 -- Assumes nothing.
-use mathlib.Core.Path.{_≡_, refl, sym, ap, _∙_}
-use Prim.Native.Nat.{ℕ, _-_, _/_, _≤_}
+use Prim.Native.Nat.{_-_}
 use native.Mathlib.Nat.{div-mul-le-self}
+use native.Mathlib.Numerals.{towards-suc}
 use native.Mathlib.Omega.{arith}
-use lib.ListN.{length}
-use Rattle.laws.specs.Buffers.{written}
-use Rattle.laws.specs.Groups.{groups}
-use Rattle.laws.proofs.Buffers.{written-nil}
 use Rattle.formats.specs.declared.Format.the-variants.{Raw10}
-use Rattle.unpacking.specs.Pixels.{unpackGroups, pixelsOf}
-use Rattle.unpacking.proofs.StoreLaws.{four-more}
+use Rattle.laws.proofs.GroupLoops.{Stored, stored-none, stored-more, stored-all}
+use Rattle.unpacking.specs.Pixels.{unpackGroup, pixelsOf}
+use Rattle.unpacking.proofs.PixelLaws.{length-group}
 use borrow.Author.Needs.{needs}
 use Rattle.unpacking.proofs.groups.unpack_raw10.Statement.{statement}
 use Rattle.unpacking.proofs.groups.unpack_raw10.Tie as tie
 
 abbrev Inv-loop : tie.InvT-loop
-Inv-loop payload pixels₀ count g₀ pixels g =
-    (g ≤ count) × (length pixels ≡ length pixels₀) × (pixels ≡ written pixels₀ 0 (unpackGroups Raw10 g payload))
+Inv-loop payload pixels₀ count g₀ pixels g = Stored 5 (unpackGroup Raw10) payload pixels₀ count g pixels
 
 abbrev μ-loop : tie.MeasureT-loop
 μ-loop payload pixels₀ count g₀ pixels g = count - g
 
 loop-holds : tie.Need-loop-holds Inv-loop μ-loop
-unfolding groups
-loop-holds c = (omega arith, refl, sym (written-nil _ 0))
+loop-holds c = stored-none _ _ _ _ _
 
 mul-i : tie.Need-mul-i Inv-loop μ-loop
 mul-i c = search needs
@@ -72,23 +67,15 @@ loop-again : tie.Need-loop-again Inv-loop μ-loop
 loop-again c =
     let f = c .before .before in
     let a = f .before .before .before .before .before .before .before .before in
-    let l = a .loop in
-    let s = a .before .before .before in (
-      omega arith,
-      f .put-four .kept .0 ∙ l .inv .1,
-      four-more (s .args .payload .now) (s .args .pixels .now) (l .pixels) _ (l .g) (length (s .args .payload .now) / 5) (omega arith) (div-mul-le-self _ 5) (s .pre) (l .inv .2) (f .put-four .ensures),
-    )
+    let s = a .before .before .before in
+    stored-more (length-group Raw10) (div-mul-le-self _ 5) (s .pre) (omega arith) (a .loop .inv) (f .put-four .kept .0) (simp towards-suc at (f .put-four .ensures))
 
 same-length : tie.Need-same-length Inv-loop μ-loop
-same-length c = c .before .loop .inv .1
+same-length c = c .before .loop .inv .same
 
 returns : tie.Need-returns Inv-loop μ-loop
 unfolding pixelsOf
-returns c =
-    let l = c .before .loop in
-    let x = c .before .before .before .before .args in
-    let done : l .g ≡ length (x .payload .now) / 5 = omega arith in
-    l .inv .2 ∙ ap (λ (n : ℕ). written (x .pixels .now) 0 (unpackGroups Raw10 n (x .payload .now))) done
+returns c = stored-all (c .before .loop .inv) (omega arith)
 
 pub unpack-raw10-spec : {M : Type 1} → statement M
 unpack-raw10-spec =

@@ -1,4 +1,4 @@
--- `registers::map::per_port::per_port_flags` meets its contract: the whole table is computed from the rows and compared.
+-- `registers::map::per_port::per_port_flags` meets its contract: the whole table is computed and compared.
 -- Assumes nothing.
 use mathlib.Core.Path.{refl}
 use Rattle.laws.specs.Tables.{tabulate, tabulateFrom}

@@ -1,0 +1,4 @@
+pub mod WindowMoves
+pub mod MadeTurns
+pub mod PlayedWindows
+pub mod FileLaws

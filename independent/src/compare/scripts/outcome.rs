@@ -1,0 +1,58 @@
+//! What must come of a job: what the program prints, and what it writes into the trace's file.
+
+use crate::compare::difference::ExpectedStderr;
+use crate::generate::scripts::{Job, MOST_BYTES};
+use crate::model::convert::{to_text, to_trace, Refused};
+
+#[derive(Clone, Debug, PartialEq, Eq)]
+pub enum Outcome {
+    Taken(Vec<u8>),
+    Refused(Refused),
+    /// More bytes than the program takes; that is no refusal.
+    TooLong,
+}
+
+impl Outcome {
+    pub fn of(job: &Job) -> Outcome {
+        let turned = match job {
+            Job::Trace { text, .. } if text.len() > MOST_BYTES => return Outcome::TooLong,
+            Job::Text { trace } if trace.len() > MOST_BYTES => return Outcome::TooLong,
+            Job::Trace { address, text } => to_trace(*address, text),
+            Job::Text { trace } => to_text(trace),
+        };
+        turned.map_or_else(Outcome::Refused, Outcome::Taken)
+    }
+
+    pub fn name(&self) -> &'static str {
+        match self {
+            Outcome::Taken(_) => "taken",
+            Outcome::Refused(_) => "refused",
+            Outcome::TooLong => "not taken",
+        }
+    }
+
+    /// What the program prints.
+    pub fn stdout(&self, job: &Job) -> Vec<u8> {
+        match (self, job) {
+            (Outcome::Taken(text), Job::Text { .. }) => text.clone(),
+            (Outcome::Refused(refused), _) => format!("{refused}\n").into_bytes(),
+            _ => Vec::new(),
+        }
+    }
+
+    pub fn stderr(&self) -> ExpectedStderr {
+        match self {
+            Outcome::Taken(_) => ExpectedStderr::Nothing,
+            Outcome::Refused(_) => ExpectedStderr::Something,
+            Outcome::TooLong => ExpectedStderr::OneLine,
+        }
+    }
+
+    /// What the trace's file holds afterwards: it is only touched where a trace was made.
+    pub fn file<'a>(&'a self, job: &Job, old: Option<&'a [u8]>) -> Option<&'a [u8]> {
+        match (self, job) {
+            (Outcome::Taken(trace), Job::Trace { .. }) => Some(trace),
+            _ => old,
+        }
+    }
+}
