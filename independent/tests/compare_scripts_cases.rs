@@ -76,7 +76,7 @@ fn another_refusal_or_line_number_is_found() {
         "no-line-number",
         "OWN convert \"$@\" | sed 's/^[0-9]* !/!/'",
     );
-    assert!(what.contains("should be \"262144 ! 14"), "{what}");
+    assert!(what.contains("should be \"65537 ! 14"), "{what}");
 }
 
 #[test]
@@ -96,16 +96,26 @@ fn a_trace_file_that_is_not_made_or_not_cut_is_found() {
     let what = found("not-made", script);
     assert!(what.starts_with("the trace's file"), "{what}");
     let script = "[ $1 = text ] && exec OWN convert \"$@\"
-rm -f \"$4.new\"; OWN convert trace $2 $3 \"$4.new\"
-[ ! -e \"$4.new\" ] || dd if=\"$4.new\" of=\"$4\" conv=notrunc 2>/dev/null";
+OWN convert trace $2 $3 \"$4.new\"
+[ ! -e \"$4.new\" ] || dd if=\"$4.new\" of=\"$4\" conv=notrunc 2>/dev/null; rm -f \"$4.new\"";
     let what = found("not-cut", script);
     assert!(what.contains("bytes and has 5000"), "{what}");
 }
 
 #[test]
+fn a_file_that_is_left_behind_is_found() {
+    let script = "OWN convert \"$@\"; [ $1 = text ] || : >\"$4.part\"";
+    let expected = "the file out.trace.part was left behind";
+    assert_eq!(found("part-left", script), expected);
+    let script = "[ $1 = text ] && exec OWN convert \"$@\"
+OWN convert trace $2 $3 \"$4.part\"; [ -e \"$4.part\" ] && exec mv \"$4.part\" \"$4\"; : >\"$4.part\"";
+    assert_eq!(found("part-left-by-a-refusal", script), expected);
+}
+
+#[test]
 fn wrong_streams_are_found() {
     let what = found("silent-refusal", "OWN convert \"$@\" 2>/dev/null");
-    assert_eq!(what, "its standard error is empty: missing");
+    assert_eq!(what, "its standard error is not one line: missing");
     let what = found("words", "echo hm >&2; exec OWN convert \"$@\"");
     assert_eq!(what, "its standard error is not empty: \"hm\"");
     let twice = "e=$0.$$; OWN convert \"$@\" 2>$e; sed p $e >&2; rm $e";
@@ -128,11 +138,6 @@ fn a_converter_that_takes_too_much_is_found() {
         ("last-line", "sed '$a\\'", taken),
         ("form-feeds", "tr '\\f' ' '", taken),
         ("capital-x", "sed 's/0X/0x/'", taken),
-        (
-            "cut-at-the-limit",
-            "head -c 262144",
-            "should be missing and is",
-        ),
     ];
     for (name, change, expected) in changes {
         let script = format!(

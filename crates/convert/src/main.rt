@@ -1,7 +1,9 @@
 // The program `convert`: turns an installer's script into a trace, and a trace into the text of a script.
 mod input;
+mod part;
 mod say;
 mod show;
+mod spool;
 mod to_text;
 mod to_trace;
 

@@ -5,43 +5,19 @@ use crate::say;
 use buffers::text::lowercase_digit;
 use libc::STDERR_FILENO;
 
-// The most bytes of a line, and so many of a longer one are shown.
+// The most bytes of a line; of a longer one only so many are shown.
 const LONGEST_LINE: usize = 200;
 
-// The place of the first line feed from a place on, or the text's end.
-fn line_end(text: &[u8], start: usize) -> usize
-    requires { ⌜ start ≤ length (now text) ⌝ }
-    ensures { λ r. ⌜ (start ≤ r) × (r ≤ length (now (text .entry))) ⌝ }
+// The place of the first line feed, or the end.
+fn line_end(text: &[u8]) -> usize
+    ensures { λ r. ⌜ r ≤ length (now (text .entry)) ⌝ }
 {
-    for place in start..text.len() {
+    for place in 0..text.len() {
         if text[place] == b'\n' {
             return place;
         }
     }
     text.len()
-}
-
-// Where the line after the one at a place starts, or the text's end.
-fn next_line(text: &[u8], start: usize) -> usize
-    requires { ⌜ start ≤ length (now text) ⌝ }
-    ensures { λ r. ⌜ r ≤ length (now (text .entry)) ⌝ }
-{
-    let end = line_end(text, start);
-    if end < text.len() {
-        return end + 1;
-    }
-    end
-}
-
-// Where the line with a number starts; lines are counted from 1.
-fn line_start(text: &[u8], number: usize) -> usize
-    ensures { λ r. ⌜ r ≤ length (now (text .entry)) ⌝ }
-{
-    let mut start = 0;
-    for _ in 1..number {
-        start = next_line(text, start);
-    }
-    start
 }
 
 // Writes a byte as it is, or by its number where it would not be seen.
@@ -87,35 +63,39 @@ fn last_byte(line: &[u8]) -> u8 {
     line[line.len() - 1]
 }
 
-// A line that is over 200 bytes.
-pub(crate) fn too_long(text: &[u8], number: usize) {
-    let start = line_start(text, number);
-    let end = line_end(text, start);
-    say::numbered(b"line ", number as u64, b" has more than ");
-    io::print_decimal(STDERR_FILENO, LONGEST_LINE as u64);
-    io::write_all(STDERR_FILENO, b" bytes: ");
-    show_line(&text[start..end]);
-}
-
-// A line of another shape.
-pub(crate) fn other_shape(text: &[u8], number: usize) {
-    let start = line_start(text, number);
-    let end = line_end(text, start);
-    let line = &text[start..end];
-    if text.len() <= end {
-        say::numbered(b"line ", number as u64, b" has no line feed at its end: ");
+// What is wrong with the line; `ended` where a line feed follows it.
+fn say_why(line: &[u8], ended: bool) {
+    if LONGEST_LINE < line.len() {
+        io::write_all(STDERR_FILENO, b" has more than 200 bytes: ");
+    } else if !ended {
+        io::write_all(STDERR_FILENO, b" has no line feed at its end: ");
     } else if last_byte(line) == b'\r' {
-        say::numbered(
-            b"line ",
-            number as u64,
+        io::write_all(
+            STDERR_FILENO,
             b" ends in a carriage return; save the script with line feeds alone: ",
         );
     } else {
-        say::numbered(
-            b"line ",
-            number as u64,
+        io::write_all(
+            STDERR_FILENO,
             b" is neither blank nor one call such as WriteI2C(0x4c,0x0f): ",
         );
     }
+}
+
+// The line at the start of the text, in words.
+fn show_refused(text: &[u8], number: u64) {
+    let end = line_end(text);
+    say::words(b"line ");
+    io::print_decimal(STDERR_FILENO, number);
+    let line = &text[0..end];
+    say_why(line, end < text.len());
     show_line(line);
+}
+
+// The line with that number is refused; it stands at the start of what the buffer holds.
+pub(crate) fn refused(buffer: &[u8], held: usize, line: u64, number: u8) {
+    say::refusal_at(line, number as u64);
+    if held <= buffer.len() {
+        show_refused(&buffer[0..held], line);
+    }
 }

@@ -1,15 +1,16 @@
 // A script to a trace: convert trace ADDRESS SCRIPT OUT.
-ghost use Prim.Native.Nat.{_≤_};
+ghost use Prim.Native.Nat.{_≤_, _<_};
 ghost use lib.ListN.{length};
+ghost use Rattle.script.specs.Grammar.{longestScriptLine};
+ghost use Rattle.scriptlines.specs.TakenLines.{recordRoom};
 use crate::input;
-use crate::input::INPUT_LIMIT;
+use crate::input::Read;
+use crate::part;
+use crate::part::Part;
 use crate::say;
 use crate::show;
-use script::TraceAnswer;
-
-// After its hub record a trace has at most a third of the text's bytes (`TraceIsShort`, so `NoEight`): no script that is
-// taken makes a longer one.
-const LONGEST_TRACE: usize = 87387;
+use script::records::HUB_RECORD;
+use scriptlines::ScriptFile;
 
 // The hub's address as it was given: two hex digits, or something else.
 enum Address {
@@ -17,10 +18,11 @@ enum Address {
     Given(u8),
 }
 
-// What became of the trace of a script, and how many bytes of it are in the buffer.
-struct ScriptTrace {
-    answer: TraceAnswer,
-    length: usize,
+// How far the script is converted: the script, whether nothing is left to do, and whether a file failed.
+struct Progress {
+    file: ScriptFile,
+    over: bool,
+    failed: bool,
 }
 
 fn read_address(word: &[u8]) -> Address {
@@ -38,65 +40,149 @@ fn read_address(word: &[u8]) -> Address {
     Address::Given(16 * high + low)
 }
 
-// Writes the trace.
-fn write_trace(path: &[u8], trace: &[u8]) {
-    let fd = os::open_overwrite(path);
-    if fd < 0 {
-        say::failed(b"cannot write the trace: ", path);
+// Writes the hub record.
+fn write_hub(fd: i32, address: u8) -> bool {
+    let mut record = [0u8; HUB_RECORD];
+    script::records::put_hub(&mut record, 0, address);
+    io::write_all(fd, &record)
+}
+
+// Writes the first bytes of the records, or says that they cannot be written.
+fn write_records(fd: i32, out: &[u8], records: &[u8], end: usize) -> bool
+    requires { ⌜ end ≤ length (now records) ⌝ }
+{
+    if io::write_all(fd, &records[0..end]) {
+        return true;
+    }
+    part::say_unwritten(out);
+    false
+}
+
+// Reads, takes the lines that were read, and writes their records.
+fn take_turn(
+    from: i32,
+    script: &[u8],
+    to: i32,
+    out: &[u8],
+    file: ScriptFile,
+    buffer: &mut [u8],
+    records: &mut [u8],
+) -> Progress {
+    match input::read_on(from, script, file.window, buffer) {
+        Read::Failed => Progress {
+            file,
+            over: true,
+            failed: true,
+        },
+        Read::Got(got) => {
+            let turn = scriptlines::turn(file, got, buffer, records);
+            let after = turn.file;
+            if write_records(to, out, records, turn.end) {
+                return Progress {
+                    file: after,
+                    over: turn.done,
+                    failed: false,
+                };
+            }
+            Progress {
+                file: after,
+                over: true,
+                failed: true,
+            }
+        }
+    }
+}
+
+// Converts the script as far as it goes. A proved loop has to end, and nothing says that a file does: the turns are
+// counted down, from a number that no file uses up (`ScriptHoweverCut` in `scriptlines` says how many a script takes;
+// the rest of what it asks is required here).
+fn take_all(
+    from: i32,
+    script: &[u8],
+    to: i32,
+    out: &[u8],
+    buffer: &mut [u8],
+    records: &mut [u8],
+) -> Progress
+    requires { ⌜ longestScriptLine < length (now buffer) ⌝ }
+    requires { ⌜ recordRoom ≤ length (now records) ⌝ }
+{
+    let file = scriptlines::new_file();
+    let mut progress = Progress {
+        file,
+        over: false,
+        failed: false,
+    };
+    let mut turns = u64::MAX;
+    while turns > 0 && !progress.over {
+        let file = progress.file;
+        progress = take_turn(from, script, to, out, file, buffer, records);
+        turns -= 1;
+    }
+    progress
+}
+
+// Keeps the trace where the script was taken; otherwise says which line is refused.
+fn finish(progress: Progress, part: Part, out: &[u8], name: &[u8], buffer: &[u8]) {
+    let file = progress.file;
+    let run = file.run;
+    let window = file.window;
+    let refusal = run.refusal;
+    let number = scriptlines::refusal_number(refusal);
+    if progress.failed || !progress.over {
+        part::discard(part, name);
         return;
     }
-    if !io::write_all(fd, trace) {
-        say::failed(b"cannot write the trace: ", path);
+    if number == 0 {
+        part::keep(part, out, name);
+        return;
     }
-    libc::close(fd);
+    part::discard(part, name);
+    show::refused(buffer, window.held, scriptlines::refused_line(run), number);
 }
 
-// Puts the trace of a text at the start of the buffer.
-fn put_trace(address: u8, text: &[u8], trace: &mut [u8]) -> ScriptTrace
-    ensures { λ r. ⌜ r .length ≤ length (now (trace .exit)) ⌝ }
-{
-    let answer = script::to_trace(address, text, trace);
-    let TraceAnswer::Trace { length } = answer else {
-        return ScriptTrace { answer, length: 0 };
-    };
-    ScriptTrace { answer, length }
+fn convert(address: u8, from: i32, script: &[u8], part: Part, out: &[u8], name: &[u8]) {
+    if !write_hub(part.fd, address) {
+        part::say_unwritten(out);
+        part::discard(part, name);
+        return;
+    }
+    let mut buffer = io::large_buffer();
+    let mut records = io::large_buffer();
+    let progress = take_all(from, script, part.fd, out, &mut buffer, &mut records);
+    finish(progress, part, out, name, &buffer);
 }
 
-// Writes the trace of a text, or says why there is none.
-fn convert(address: u8, text: &[u8], trace: &mut [u8], out: &[u8]) {
-    let made = put_trace(address, text, trace);
-    let answer = made.answer;
-    let length = made.length;
-    match answer {
-        TraceAnswer::AddressOutOfRange => {
-            say::refusal(2);
-            say::words(b"the hub's address has to lie in 08 to 77\n");
-        }
-        TraceAnswer::ScriptLineTooLong { line } => {
-            say::refusal_at(line as u64, 15);
-            show::too_long(text, line);
-        }
-        TraceAnswer::ScriptLineOtherShape { line } => {
-            say::refusal_at(line as u64, 14);
-            show::other_shape(text, line);
-        }
-        // Never: the buffer has room for the trace of every text that is taken.
-        TraceAnswer::NoRoom => {
-            say::refusal(8);
-            say::words(b"the trace is too long\n");
-        }
-        TraceAnswer::Trace { length: _ } => write_trace(out, &trace[0..length]),
+// Converts the open script.
+fn convert_file(address: u8, from: i32, script: &[u8], out: &[u8]) {
+    let mut space = io::buffer();
+    let length = part::put_name(out, &mut space);
+    if space.len() < length {
+        part::say_unwritten(out);
+        return;
     }
+    let name = &space[0..length];
+    let part = part::begin(out, name);
+    if part.fd < 0 {
+        return;
+    }
+    convert(address, from, script, part, out, name);
 }
 
-// Reads the script into the buffer, and converts it.
-fn convert_file(address: u8, script: &[u8], buffer: &mut [u8], out: &[u8]) {
-    let input = input::read_path(script, buffer);
-    let length = input.length;
-    if input.taken {
-        let mut trace = [0u8; LONGEST_TRACE];
-        convert(address, &buffer[0..length], &mut trace, out);
+// Converts the script where the address is one that a hub may have.
+fn convert_script(address: u8, script: &[u8], out: &[u8]) {
+    let number = scriptlines::address_refusal(address);
+    if number != 0 {
+        say::refusal(number as u64);
+        say::words(b"the hub's address has to lie in 08 to 77\n");
+        return;
     }
+    let from = input::open(script);
+    if from < 0 {
+        return;
+    }
+    convert_file(address, from, script, out);
+    libc::close(from);
 }
 
 // Converts the script into the trace, the hub's address given as a word.
@@ -107,10 +193,7 @@ fn convert_words(word: &[u8], script: &[u8], out: &[u8]) {
                 b"give the hub's address as two hex digits, as in: convert trace 3D FILE OUT\n",
             );
         }
-        Address::Given(address) => {
-            let mut buffer = [0u8; INPUT_LIMIT];
-            convert_file(address, script, &mut buffer, out);
-        }
+        Address::Given(address) => convert_script(address, script, out),
     }
 }
 

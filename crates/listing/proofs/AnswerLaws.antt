@@ -4,20 +4,24 @@ use mathlib.Core.Path.{_≡_, refl, sym, ap, _∙_}
 use mathlib.Core.Bool.{Bool, true, false, cond}
 use mathlib.Core.List.{List}
 use Prim.Native.Nat.{ℕ, _+_, _≤_}
+use native.Mathlib.Omega.{arith}
+use borrow.Author.Tests.{le-leb}
 use lib.ListN.{length}
 use Rattle.laws.specs.Reply.{Reply, refused, refusedWith, given, onReply}
 use Rattle.laws.specs.Buffers.{hasRoom, ifRoom, afterReply, countOf, Writes}
 use Rattle.laws.proofs.Absurd.{zero-not-one}
 use Rattle.laws.proofs.Buffers.{writing}
-use Rattle.laws.proofs.Replies.{then-given, room-given, count-given}
+use Rattle.laws.proofs.Replies.{then-given, room-by, room-given, count-given}
 use Rattle.buffers.specs.Putting.{Puts}
 use Rattle.buffers.proofs.PutLaws.{whole-buffer}
 use Rattle.registers.specs.Bursts.{RegisterWrite}
+use Rattle.trace.specs.Records.{recordOf}
 use Rattle.listing.specs.declared.CountAnswer.{CountAnswer}
 use Rattle.listing.specs.declared.ListingAnswer.{ListingAnswer}
-use Rattle.listing.specs.Listing.{callsText, traceCalls, textIfRoom, traceText, listingReply}
+use Rattle.listing.specs.Listing.{callsText, recordCalls, traceCalls, textIfRoom, traceText, recordText, LongestText, listingReply}
 use Rattle.listing.specs.Contracts.{countReply, bytesIfRoom}
 use Rattle.listing.proofs.TextLaws.{length-text}
+use Rattle.listing.proofs.RecordLaws.{text-most}
 
 -- a count that is none is a refusal
 pub count-refused : (counted : CountAnswer) → ((n : ℕ) → counted ≡ CountAnswer.Calls n → ⊥) → (number : ℕ) × (countReply counted ≡ refused number)
@@ -44,6 +48,25 @@ trace-text-given trace size e =
     let taken = then-given (traceCalls trace) (λ written. ifRoom size 0 (callsText written)) e in
     (taken .0, taken .1, room-given size 0 (callsText (taken .0)) (taken .2) .0)
 
+-- the text of a record has room where so many bytes are free
+pub longest-text : LongestText
+unfolding recordText
+longest-text first bytes size place small free = go (recordCalls (recordOf first bytes)) refl
+  where
+    go : (reply : Reply (List RegisterWrite)) → recordCalls (recordOf first bytes) ≡ reply → textIfRoom size place reply ≡ onReply callsText reply
+    go (refusedWith number detail) e = refl
+    go (given calls) e =
+        let text = callsText calls in
+        room-by size place text (length text) refl (le-leb (place + length text) size (omega (arith, text-most first bytes e small)))
+
+-- an answer that is no text gives none
+pub not-given : (answer : ListingAnswer) {count : ℕ} → ((n : ℕ) → answer ≡ ListingAnswer.Text n → ⊥) → listingReply answer ≡ given count → ⊥
+not-given ListingAnswer.NoRecord none e = zero-not-one (cc)
+not-given ListingAnswer.AddressOutOfRange none e = zero-not-one (cc)
+not-given ListingAnswer.NoTextForm none e = zero-not-one (cc)
+not-given ListingAnswer.NoRoom none e = zero-not-one (cc)
+not-given (ListingAnswer.Text n) none e = none n refl
+
 -- what a text that is given has: calls, and room
 pub text-given : (size place : ℕ) (calls : Reply (List RegisterWrite)) {n : ℕ} → given n ≡ countOf (textIfRoom size place calls)
     → (taken : List RegisterWrite) × (calls ≡ given taken) × (textIfRoom size place calls ≡ given (callsText taken))
@@ -69,11 +92,7 @@ module _ (before : List ℕ) (place : ℕ) (calls : Reply (List RegisterWrite)) 
     where
       go : (r : Reply (List ℕ)) (a : ListingAnswer) → ((n : ℕ) → a ≡ ListingAnswer.Text n → ⊥) → listingReply a ≡ countOf r → before ≡ afterReply before place r
       go (refusedWith number detail) a n k = refl
-      go (given bytes) ListingAnswer.NoRecord n k = zero-not-one (cc)
-      go (given bytes) ListingAnswer.AddressOutOfRange n k = zero-not-one (cc)
-      go (given bytes) ListingAnswer.NoTextForm n k = zero-not-one (cc)
-      go (given bytes) ListingAnswer.NoRoom n k = zero-not-one (cc)
-      go (given bytes) (ListingAnswer.Text m) n k = absurd (n m refl)
+      go (given bytes) a n k = absurd (not-given a n k)
 
   -- a text: it was put
   pub text-put : {n : ℕ} {after : List ℕ} {next : ℕ} → answer ≡ ListingAnswer.Text n

@@ -1,9 +1,9 @@
 -- Laws of the calls of one record: which records have a text, and how many calls they have.
 -- Assumes nothing.
-use mathlib.Core.Path.{_≡_, refl, ap}
-use mathlib.Core.Bool.{Bool, true, false}
+use mathlib.Core.Path.{_≡_, refl}
+use mathlib.Core.Bool.{Bool, true, false, cond}
 use mathlib.Core.List.{List, []}
-use Prim.Native.Nat.{ℕ, _≤_}
+use Prim.Native.Nat.{ℕ, _-_, _≤_, _<_}
 use native.Mathlib.Omega.{arith}
 use lib.ListN.{length, getD, drop, length-drop}
 use Rattle.laws.specs.Reply.{Reply, refused, given}
@@ -15,9 +15,9 @@ use Rattle.trace.specs.declared.Record.{Record}
 use Rattle.trace.specs.Framing.{recordLength, dataOf}
 use Rattle.trace.specs.Records.{TraceRecord, hubRecord, writeRecord, recordOf, recordIn}
 use Rattle.trace.proofs.KindLaws.{by-record}
-use Rattle.trace.proofs.RecordLaws.{given-whole, data-most}
-use Rattle.listing.specs.Listing.{callsAsked, recordCalls}
-use Rattle.listing.proofs.TextLaws.{length-burst}
+use Rattle.trace.proofs.RecordLaws.{given-whole, data-most, record-most}
+use Rattle.listing.specs.Listing.{callsText, callsAsked, recordCalls, longestText}
+use Rattle.listing.proofs.TextLaws.{length-text, length-burst}
 
 -- a hub record that is not refused has an address that a hub may have, and no calls
 pub hub-calls : (address : ℕ) {calls : List RegisterWrite} → callsAsked (hubRecord address) ≡ given calls
@@ -81,21 +81,42 @@ module _ (bytes : List ℕ) (asked : Record) where
 pub calls-whole : (first : Bool) (bytes : List ℕ) {calls : List RegisterWrite} → recordCalls (recordOf first bytes) ≡ given calls → recordLength bytes ≤ length bytes
 calls-whole first bytes e = given-whole first bytes (then-given (recordOf first bytes) callsAsked e .1)
 
--- and has no more of them than bytes
-pub few-calls : (first : Bool) (bytes : List ℕ) {calls : List RegisterWrite} → recordCalls (recordOf first bytes) ≡ given calls → length calls ≤ recordLength bytes
+-- The calls of a record: one refusal of three, or no more calls than values.
+pub data CallsOf (bytes : List ℕ) : Reply (List RegisterWrite) → Type 0 where
+  noRecord : CallsOf bytes (refused 13)
+  addressOutOfRange : CallsOf bytes (refused 2)
+  noTextForm : CallsOf bytes (refused 16)
+  ofValues : (calls : List RegisterWrite) → length calls ≤ length (dataOf bytes) - 1 → CallsOf bytes (given calls)
+
+pub calls-of : (first : Bool) (bytes : List ℕ) → CallsOf bytes (recordCalls (recordOf first bytes))
 unfolding callsAsked
-few-calls first bytes {calls} e = by-record P (λ k. zero-not-one (cc)) first bytes (λ f. hub) write other other other other other other e
+calls-of first bytes =
+    by-record (λ found. CallsOf bytes (recordCalls found)) noRecord first bytes (λ f. hub (isHubAddress (getD d 0 0))) write noTextForm noTextForm noTextForm noTextForm
+    noTextForm noTextForm
   where
-    P : Reply TraceRecord → Type 0
-    P found = recordCalls found ≡ given calls → length calls ≤ recordLength bytes
+    d : List ℕ
+    d = dataOf bytes
 
-    hub : callsAsked (hubRecord (getD (dataOf bytes) 0 0)) ≡ given calls → length calls ≤ recordLength bytes
-    hub k = omega (arith, ap length (hub-calls (getD (dataOf bytes) 0 0) k .1))
+    hub : (allowed : Bool) → CallsOf bytes (cond allowed (given []) (refused 2))
+    hub true = ofValues [] (omega arith)
+    hub false = addressOutOfRange
 
-    write : given (burstWrites (getD (dataOf bytes) 0 0) (drop 1 (dataOf bytes))) ≡ given calls → length calls ≤ recordLength bytes
-    write k =
-        let d = dataOf bytes in
-        omega (arith, ap length (given-same k refl), length-burst (getD d 0 0) (drop 1 d), length-drop 1 d, data-most bytes)
+    write : CallsOf bytes (given (burstWrites (getD d 0 0) (drop 1 d)))
+    write = ofValues (burstWrites (getD d 0 0) (drop 1 d)) (omega (arith, length-burst (getD d 0 0) (drop 1 d), length-drop 1 d))
 
-    other : _≡_ {A = Reply (List RegisterWrite)} (refused 16) (given calls) → length calls ≤ recordLength bytes
-    other k = zero-not-one (cc)
+-- no more of them than bytes, and their text is no longer than the longest
+module _ (first : Bool) (bytes : List ℕ) {calls : List RegisterWrite} (e : recordCalls (recordOf first bytes) ≡ given calls) where
+  few-values : length calls ≤ length (dataOf bytes) - 1
+  few-values = go (calls-of first bytes) e
+    where
+      go : {reply : Reply (List RegisterWrite)} → CallsOf bytes reply → reply ≡ given calls → length calls ≤ length (dataOf bytes) - 1
+      go noRecord k = refused-given refl k
+      go addressOutOfRange k = refused-given refl k
+      go noTextForm k = refused-given refl k
+      go (ofValues here few) k = rw (given-same refl k) at few
+
+  pub few-calls : length calls ≤ recordLength bytes
+  few-calls = omega (arith, few-values, data-most bytes)
+
+  pub text-most : getD bytes 3 0 < 256 → length (callsText calls) ≤ longestText
+  text-most small = omega (arith, few-values, length-text calls, data-most bytes, record-most bytes small)

@@ -3,9 +3,9 @@
 use mathlib.Core.Path.{_≡_}
 use mathlib.Core.Bool.{Bool, true, false, cond}
 use mathlib.Core.List.{List, [], _∷_, _++_}
-use Prim.Native.Nat.{ℕ, zero, suc, _≤_}
+use Prim.Native.Nat.{ℕ, zero, suc, _+_, _≤_, _<_}
 use lib.Dec.{eqb}
-use lib.ListN.{length, drop}
+use lib.ListN.{length, getD, drop}
 use Rattle.laws.specs.Reply.{Reply, refused, given, onReply, andThen}
 use Rattle.laws.specs.Buffers.{ifRoom}
 use Rattle.laws.specs.Texts.{ascii}
@@ -89,6 +89,16 @@ traceText trace size = textIfRoom size 0 (traceCalls trace)
 -- the text of the record at the start of some bytes, `first` where it is the trace's first
 unfoldable pub recordText : Bool → List ℕ → ℕ → ℕ → Reply (List ℕ)
 recordText first bytes size place = textIfRoom size place (recordCalls (recordOf first bytes))
+
+-- no record has a longer text: at most 254 values, a line of 20 bytes each
+abbrev pub longestText : ℕ
+longestText = 5080
+
+-- A law: where so many bytes are free from the place on, 8 does not come. (The record's length byte is a byte.)
+abbrev pub LongestText : Type 0
+LongestText =
+    (first : Bool) (bytes : List ℕ) (size place : ℕ) → getD bytes 3 0 < 256 → place + longestText ≤ size
+    → recordText first bytes size place ≡ onReply callsText (recordCalls (recordOf first bytes))
 
 -- the paper's number and value for each case of the answer
 abbrev pub listingReply : ListingAnswer → Reply ℕ

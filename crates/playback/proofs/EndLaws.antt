@@ -11,13 +11,14 @@ use lib.Dec.{eqb}
 use lib.ListN.{length, drop}
 use Rattle.laws.specs.Reply.{Reply, isRefused}
 use Rattle.trace.specs.Framing.{recordLength}
+use Rattle.trace.proofs.WindowLaws.{rest-less}
 use Rattle.answers.specs.Answers.{Answer}
 use Rattle.printing.specs.PrintedLines.{printedLine}
 use Rattle.playback.specs.declared.Session.{Session}
 use Rattle.playback.specs.Playing.{Played, PlayedRecords, noneLeft, answerThen, printedLines, refusedAmong}
 use Rattle.playback.specs.Windows.{isFirst, playedNext, sessionAfter, RunEnd, endOf, playLeft, endFrom, textThen, sessionEnd, CountsFit}
 use Rattle.playback.specs.Windows.{StartsWithAll, EndsWithCounts}
-use Rattle.playback.proofs.PlayingLaws.{rest-less, no-records, next-record}
+use Rattle.playback.proofs.PlayingLaws.{no-records, next-record}
 
 pub starts-with-all : StartsWithAll
 unfolding endFrom

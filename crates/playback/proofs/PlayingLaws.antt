@@ -4,23 +4,19 @@ use mathlib.Core.Path.{_≡_, refl, sym, ap, _∙_}
 use mathlib.Core.Bool.{Bool, true, false, cond}
 use mathlib.Core.List.{List, List·Memᴰ, List·Memᴰ·head, List·Memᴰ·tail, List·Memᴰ·not-nil}
 use mathlib.Core.Option.{Option}
-use Prim.Native.Nat.{ℕ, zero, suc, _+_, _≤_}
+use Prim.Native.Nat.{ℕ, zero, suc, _≤_}
 use native.Mathlib.Omega.{arith}
 use borrow.Author.Tests.{eqb-false, eq-eqb, ne-eqb}
 use lib.Dec.{eqb}
-use lib.ListN.{length, drop, replicate, length-drop, length-replicate}
+use lib.ListN.{length, drop, replicate, length-replicate}
 use Rattle.laws.specs.Reply.{refusedWith}
 use Rattle.hub.specs.declared.Hub.{Hub}
 use Rattle.hub.specs.Hubs.{hubAt}
 use Rattle.trace.specs.Framing.{recordLength}
 use Rattle.trace.specs.Records.{recordOf}
-use Rattle.trace.proofs.RecordLaws.{some-bytes}
+use Rattle.trace.proofs.WindowLaws.{rest-less}
 use Rattle.playback.specs.Playing.{Played, playRecord, PlayedRecords, noneLeft, answerThen, playRecords, packetRoom, EightNeverOccurs}
 use Rattle.playback.proofs.SoundPlays.{Sound, found-sound}
-
--- what follows a record is shorter
-pub rest-less : (bytes : List ℕ) → 1 ≤ length bytes → 1 + length (drop (recordLength bytes) bytes) ≤ length bytes
-rest-less bytes h = omega (arith, some-bytes bytes, length-drop (recordLength bytes) bytes)
 
 -- a record that was played, and the records after it
 abbrev pub playedThen : Played → PlayedRecords → PlayedRecords

@@ -2,23 +2,23 @@
 -- Assumes nothing.
 use mathlib.Core.Path.{_≡_, refl, sym, ap, _∙_}
 use mathlib.Core.Bool.{Bool, true, false, cond, not, _&&_}
-use mathlib.Core.List.{List, [], _++_, append-nil}
+use mathlib.Core.List.{List, [], _++_}
 use Prim.Native.Nat.{ℕ, zero, suc, _+_, _≤_, min}
 use native.Mathlib.Nat.{add-zero, min-eq-left, min-eq-right, min-le-right}
 use native.Mathlib.Omega.{arith}
-use borrow.Author.Tests.{leb-true, leb-false, eqb-false, not-true}
-use lib.Dec.{eqb, leb}
+use borrow.Author.Tests.{leb-true, leb-false, not-true}
+use lib.Dec.{leb}
 use lib.ListN.{length, drop, length-append, drop-of-length-le}
-use lib.Seq.{drop-append-le, drop-length}
+use lib.Seq.{drop-length}
 use Rattle.laws.specs.Reply.{Reply}
 use Rattle.laws.specs.Buffers.{hasRoom}
 use Rattle.laws.proofs.Bools.{both}
 use Rattle.laws.proofs.Buffers.{written-nil, written-more, length-written}
 use Rattle.buffers.specs.Putting.{Puts}
 use Rattle.buffers.proofs.PutLaws.{whole-buffer, whole-place}
-use Rattle.trace.specs.Framing.{recordLength, holdsRecord}
+use Rattle.trace.specs.Framing.{recordLength}
 use Rattle.trace.specs.Records.{TraceRecord, recordOf}
-use Rattle.trace.proofs.RecordLaws.{some-bytes, same-record}
+use Rattle.trace.proofs.WindowLaws.{rest-less, shows, some-left, same-next}
 use Rattle.answers.specs.Answers.{answerReply}
 use Rattle.printing.specs.PrintedLines.{printedLine}
 use Rattle.printing.proofs.LineLengths.{printed-line-short}
@@ -29,30 +29,7 @@ use Rattle.playback.specs.Windows.{isFirst, playedNext, sessionAfter, te
 use Rattle.playback.specs.Windows.{PrintsNext, WindowsPrint, PlaysOut}
 use Rattle.playback.specs.Contracts.{playedOf, PlaysOne}
 use Rattle.playback.proofs.SoundPlays.{found-sound}
-use Rattle.playback.proofs.PlayingLaws.{rest-less}
 use Rattle.playback.proofs.EndLaws.{sessionNext, lineNext, text-text, counts-next, end-next}
-
--- a window shows a whole record or, at the file's end, any byte
-abbrev shows : Bool → List ℕ → Bool
-shows last left = cond last (not (eqb (length left) 0)) (holdsRecord left)
-
--- it has a byte left then
-some-left : (last : Bool) (left : List ℕ) → shows last left ≡ true → 1 ≤ length left
-some-left true left h = let ne = eqb-false (length left) 0 (not-true (eqb (length left) 0) h) in omega arith
-some-left false left h = omega (arith, some-bytes left, leb-true (recordLength left) (length left) h)
-
--- and its next record is the file's, whatever follows the window
-record SameNext (first : Bool) (left rest : List ℕ) : Type 0 where
-  found : recordOf first (left ++ rest) ≡ recordOf first left
-  after : drop (recordLength (left ++ rest)) (left ++ rest) ≡ drop (recordLength left) left ++ rest
-
-same-next : (last first : Bool) (left rest : List ℕ) → (last ≡ true → rest ≡ []) → shows last left ≡ true → SameNext first left rest
-same-next true first left rest ends h =
-    let none = ends refl in
-    record { found = rw (none, append-nil); after = rw (none, append-nil left, append-nil (drop (recordLength left) left)) }
-same-next false first left rest ends h =
-    let same = same-record first left rest h in
-    record { found = same .0; after = rw (same .1) (drop-append-le (recordLength left) left rest (leb-true (recordLength left) (length left) h)) }
 
 -- of a record that is cut short, what is there of it is taken
 used-rest : (bytes : List ℕ) → drop (min (recordLength bytes) (length bytes)) bytes ≡ drop (recordLength bytes) bytes

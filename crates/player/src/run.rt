@@ -1,12 +1,15 @@
-// The run through a file: bytes are read into the window, a turn plays them, and its text is written.
+// The run through a file: bytes are read into a buffer, a turn plays them, and its text is written.
 ghost use mathlib.Core.Path.{_≡_};
 ghost use Prim.Native.Nat.{_≤_};
 ghost use lib.ListN.{length, take, replicate};
 ghost use Rattle.printing.specs.PrintedLines.{printedCounts};
+ghost use Rattle.trace.specs.Framing.{longestRecord};
 ghost use Rattle.playback.specs.Playing.{packetRoom};
+ghost use Rattle.playback.specs.Windows.{textRoom};
 use libc::STDERR_FILENO;
 use libc::STDOUT_FILENO;
 use playback::Session;
+use streams::Window;
 use turns::FileRun;
 
 // More bytes than the last line has.
@@ -64,23 +67,23 @@ fn write_text(text: &[u8], end: usize, session: Session, done: bool) -> bool
     done
 }
 
-// Reads bytes of the file into the window, after the first `held`.
-fn read_after(fd: i32, path: &[u8], window: &mut [u8], held: usize) -> Read
-    requires { ⌜ held ≤ length (now window) ⌝ }
+// Reads bytes of the file into the buffer, after the first `held`.
+fn read_after(fd: i32, path: &[u8], buffer: &mut [u8], held: usize) -> Read
+    requires { ⌜ held ≤ length (now buffer) ⌝ }
 {
-    let got = libc::read(fd, &mut window[held..]);
+    let got = libc::read(fd, &mut buffer[held..]);
     if got < 0 {
         io::write_all(STDERR_FILENO, b"player: cannot read the trace: ");
         os::fail(path);
         return Read::Failed;
     }
-    Read::Got(io::count(got, &window[held..]))
+    Read::Got(io::count(got, &buffer[held..]))
 }
 
 // Reads the bytes of the file that the next turn wants.
-fn read_on(fd: i32, path: &[u8], run: FileRun, window: &mut [u8]) -> Read {
-    if turns::wants_bytes(run.last, run.held, window.len()) {
-        return read_after(fd, path, window, run.held);
+fn read_on(fd: i32, path: &[u8], window: Window, buffer: &mut [u8]) -> Read {
+    if streams::wants_bytes(window, buffer.len()) {
+        return read_after(fd, path, buffer, window.held);
     }
     Read::Got(0)
 }
@@ -90,14 +93,14 @@ fn take_turn(
     fd: i32,
     path: &[u8],
     run: FileRun,
-    window: &mut [u8],
+    buffer: &mut [u8],
     packets: &mut [u8],
     out: &mut [u8],
 ) -> Step {
-    match read_on(fd, path, run, window) {
+    match read_on(fd, path, run.window, buffer) {
         Read::Failed => Step { run, over: true },
         Read::Got(got) => {
-            let turn = turns::turn(run, got, window, packets, out);
+            let turn = turns::turn(run, got, buffer, packets, out);
             let after = turn.run;
             let session = after.session;
             let over = write_text(out, turn.end, session, turn.done);
@@ -107,13 +110,17 @@ fn take_turn(
 }
 
 // A proved loop has to end, and nothing says that a file does: the turns are counted down, from a number that no file
-// uses up (`HoweverCut` in `turns` says how many a file takes).
-fn play_all(fd: i32, path: &[u8], window: &mut [u8], packets: &mut [u8], out: &mut [u8]) {
+// uses up (`HoweverCut` in `turns` says how many a file takes; the rest of what it asks is required here).
+fn play_all(fd: i32, path: &[u8], buffer: &mut [u8], packets: &mut [u8], out: &mut [u8])
+    requires { ⌜ longestRecord ≤ length (now buffer) ⌝ }
+    requires { ⌜ now packets ≡ replicate packetRoom 0 ⌝ }
+    requires { ⌜ textRoom ≤ length (now out) ⌝ }
+{
     let mut run = turns::new_run();
     let mut over = false;
     let mut turns = u64::MAX;
     while turns > 0 && !over {
-        let next = take_turn(fd, path, run, window, packets, out);
+        let next = take_turn(fd, path, run, buffer, packets, out);
         run = next.run;
         over = next.over;
         turns -= 1;
@@ -130,8 +137,8 @@ fn packet_buffer() -> [u8; 6150]
 
 // Plays the open file.
 pub(crate) fn play_file(fd: i32, path: &[u8]) {
-    let mut window = io::large_buffer();
+    let mut buffer = io::large_buffer();
     let mut out = io::large_buffer();
     let mut packets = packet_buffer();
-    play_all(fd, path, &mut window, &mut packets, &mut out);
+    play_all(fd, path, &mut buffer, &mut packets, &mut out);
 }

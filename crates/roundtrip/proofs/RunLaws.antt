@@ -22,6 +22,7 @@ use Rattle.hub.proofs.Hubs.{burst-registers}
 use Rattle.trace.specs.Framing.{recordLength, dataOf}
 use Rattle.trace.specs.Records.{hubRecord, recordOf}
 use Rattle.trace.proofs.RecordLaws.{some-bytes, given-whole, data-bytes}
+use Rattle.trace.proofs.WindowLaws.{rest-less}
 use Rattle.script.specs.Traces.{writeRecords, traceOf}
 use Rattle.script.proofs.TraceLaws.{writes-length, trace-length, trace-first, trace-rest, writes-first, writes-rest}
 use Rattle.listing.specs.Listing.{recordCalls, traceCalls, leftCalls}
@@ -29,7 +30,7 @@ use Rattle.listing.proofs.RecordLaws.{hub-calls, write-calls}
 use Rattle.listing.proofs.TraceLaws.{records-join, none-left}
 use Rattle.playback.specs.Playing.{playRecords}
 use Rattle.playback.proofs.RecordPlays.{hub-played, write-played}
-use Rattle.playback.proofs.PlayingLaws.{rest-less, no-records, next-record}
+use Rattle.playback.proofs.PlayingLaws.{no-records, next-record}
 
 -- the hub after some writes of one value
 abbrev pub hubWrites : Hub → List RegisterWrite → Hub

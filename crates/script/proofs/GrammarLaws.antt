@@ -31,7 +31,7 @@ unfolding scriptLineReply
 line-given line here l short = rw (le-ltb longestScriptLine (length line) short, lines-taken line here .every l)
 
 -- and what gives calls is a line of the grammar
-given-line : (line : List ℕ) (here : List RegisterWrite) → scriptLineReply line ≡ given here → IsScriptLine line here × (length line ≤ longestScriptLine)
+pub given-line : (line : List ℕ) (here : List RegisterWrite) → scriptLineReply line ≡ given here → IsScriptLine line here × (length line ≤ longestScriptLine)
 unfolding scriptLineReply
 given-line line here e = go (ltb longestScriptLine (length line)) refl (scriptLineRead line) refl
   where

@@ -1,4 +1,5 @@
 pub mod PartLaws
 pub mod GrammarLaws
+pub mod FirstLineLaws
 pub mod TextLaws
 pub mod TraceLaws

@@ -1,94 +1,17 @@
--- The lines of a text as the source cuts them off, and the calls of the lines passed so far.
+-- The calls of the lines of a text that were passed so far.
 -- Assumes nothing.
-use mathlib.Core.Path.{_≡_, refl, sym, ap, _∙_}
-use mathlib.Core.Bool.{Bool, true, false, cond, and-eq-true-iff}
-use mathlib.Core.List.{List, [], _∷_, _++_, append-nil}
-use Prim.Native.Nat.{ℕ, suc, _+_, _≤_, _<_}
-use native.Mathlib.Numerals.{add-one}
-use native.Mathlib.Omega.{arith}
-use borrow.Author.Tests.{ne-eqb, lt-ltb, le-ltb, ltb-true, ltb-false}
-use lib.Dec.{ltb}
-use lib.ListN.{length, getD, take, drop, drop-of-length-le}
-use lib.Seq.{take-suc, take-all, split-at, length-take-le, drop-drop}
+use mathlib.Core.Path.{_≡_, refl, ap, _∙_}
+use mathlib.Core.List.{List, [], _++_, append-nil}
+use Prim.Native.Nat.{ℕ, suc, _+_, _≤_}
+use lib.ListN.{length, drop, drop-of-length-le}
+use lib.Seq.{drop-drop}
 use Rattle.laws.specs.Reply.{refusedAt, given}
 use Rattle.laws.proofs.Replies.{joined-none, joined-twice}
 use Rattle.registers.specs.Bursts.{RegisterWrite}
 use Rattle.calls.specs.declared.ScriptLine.{ScriptLine}
-use Rattle.calls.specs.declared.ScriptLine.the-variants.{OtherShape, Blank, Call as CallFound}
-use Rattle.calls.specs.Grammar.{all}
-use Rattle.calls.specs.ScriptLines.{scriptLineRead, callsOf}
 use Rattle.script.specs.declared.text.NextScriptLine.{NextScriptLine}
-use Rattle.script.specs.Grammar.{longestScriptLine}
-use Rattle.script.specs.Reading.{shapeReply, scriptLineReply, restReply, joinedTo, scriptLineThen, partsOf, callsFrom, scriptCalls}
-use Rattle.script.specs.Contracts.{callsIn, FirstScriptLine, NextScriptLineOf}
-use Rattle.script.proofs.PartLaws.{parts-next, parts-last, calls-next, calls-last}
-
--- a test that every byte passes, with one byte more
-pub all-more : (test : ℕ → Bool) (text : List ℕ) (place : ℕ) → place < length text → all test (take place text) ≡ true → test (getD text place 0) ≡ true
-    → all test (take (place + 1) text) ≡ true
-all-more test text place h a b = rw (add-one place, take-suc text place 0 h) (one-more (take place text) a)
-  where
-    one-more : (l : List ℕ) → all test l ≡ true → all test (l ++ (getD text place 0 ∷ [])) ≡ true
-    one-more [] e = rw b
-    one-more (x ∷ l) e = let k = and-eq-true-iff (test x) (all test l) .0 e in rw (k .0) (one-more l (k .1))
-
--- a line by what it was read as: its calls, where it has none of another shape
-pub shape-taken : (read : ScriptLine) → (read ≡ OtherShape → ⊥) → shapeReply (callsOf read) ≡ given (callsIn read)
-shape-taken OtherShape h = absurd (h refl)
-shape-taken Blank h = refl
-shape-taken (CallFound offset value) h = refl
-
--- and none where it has no call
-pub no-call : (read : ScriptLine) → ((offset value : ℕ) → read ≡ CallFound offset value → ⊥) → callsIn read ≡ []
-no-call OtherShape h = refl
-no-call Blank h = refl
-no-call (CallFound offset value) h = absurd (h offset value refl)
-
-module _ (text : List ℕ) (n : ℕ) (first : FirstScriptLine text n) where
-  -- the line has so many bytes
-  line-bytes : length (take n text) ≡ n
-  line-bytes = length-take-le n text (first .within)
-
-  -- a line that ends in a line feed comes to what it is, and what follows
-  ended-line : n < length text → (number : ℕ)
-      → callsFrom number (partsOf text) ≡ scriptLineThen number (scriptLineReply (take n text)) (callsFrom (suc number) (partsOf (drop (n + 1) text)))
-  ended-line h number =
-      let cut : text ≡ take n text ++ (10 ∷ drop (n + 1) text) =
-      split-at text n 0 h ∙ ap (λ (b : ℕ). take n text ++ (b ∷ drop (suc n) text)) (first .ended h) ∙ rw (add-one n) in
-      ap (λ (t : List ℕ). callsFrom number (partsOf t)) cut
-      ∙ ap (callsFrom number) (parts-next (take n text) (drop (n + 1) text) (first .before))
-      ∙ calls-next number (take n text) (drop (n + 1) text)
-
-  module _ (some-byte : 0 < length text) where
-    -- one that has none is the rest of the text, and is refused
-    unended-line : length text ≤ n → (number : ℕ) → callsFrom number (partsOf text) ≡ refusedAt (cond (ltb longestScriptLine n) 15 14) number
-    unfolding restReply
-    unended-line h number =
-        let w = first .within in
-        let all : length text ≡ n = omega arith in
-        ap (callsFrom number) (parts-last text (rw (take-all n text h) at (first .before)))
-        ∙ calls-last number text
-        ∙ rw (ne-eqb (length text) 0 (λ (z : length text ≡ 0). omega arith), all)
-
-    -- a line of over 200 bytes, whether it ends or not
-    pub too-long : longestScriptLine < n → (number : ℕ) → callsFrom number (partsOf text) ≡ refusedAt 15 number
-    unfolding scriptLineReply
-    too-long k number = go (ltb n (length text)) refl
-      where
-        go : (b : Bool) → ltb n (length text) ≡ b → callsFrom number (partsOf text) ≡ refusedAt 15 number
-        go true e = ended-line (ltb-true n (length text) e) number ∙ rw (line-bytes, lt-ltb longestScriptLine n k)
-        go false e = unended-line (ltb-false n (length text) e) number ∙ rw (lt-ltb longestScriptLine n k)
-
-    module _ (short : n ≤ longestScriptLine) where
-      -- a line without its line feed
-      pub no-line-feed : length text ≤ n → (number : ℕ) → callsFrom number (partsOf text) ≡ refusedAt 14 number
-      no-line-feed h number = unended-line h number ∙ rw (le-ltb longestScriptLine n short)
-
-      -- a line by its shape
-      pub line-shape : n < length text → (read : ScriptLine) → callsOf read ≡ scriptLineRead (take n text) → (number : ℕ)
-          → callsFrom number (partsOf text) ≡ scriptLineThen number (shapeReply (callsOf read)) (callsFrom (suc number) (partsOf (drop (n + 1) text)))
-      unfolding scriptLineReply
-      line-shape h read e number = ended-line h number ∙ rw (line-bytes, le-ltb longestScriptLine n short, sym e)
+use Rattle.script.specs.Reading.{restReply, joinedTo, partsOf, callsFrom, scriptCalls}
+use Rattle.script.specs.Contracts.{NextScriptLineOf}
 
 -- a line that is not taken is refused
 pub next-refused : (text : List ℕ) (next : NextScriptLine) → NextScriptLineOf text next → ((count : ℕ) (read : ScriptLine) → next ≡ NextScriptLine.Taken count read → ⊥)

@@ -2,11 +2,10 @@
 -- Assumes nothing.
 use mathlib.Core.Path.{_≡_}
 use mathlib.Core.Bool.{true}
-use mathlib.Core.List.{List, [], _∷_}
+use mathlib.Core.List.{List}
 use Prim.Native.Nat.{ℕ, suc, _+_, _≤_, _<_}
 use lib.ListN.{length, getD, take, drop}
 use Rattle.calls.specs.declared.ScriptLine.{ScriptLine}
-use Rattle.calls.specs.declared.ScriptLine.the-variants.{OtherShape, Blank, Call as CallFound}
 use Rattle.script.specs.declared.text.NextScriptLine.{NextScriptLine}
 use Rattle.script.specs.declared.text.TextRead.{TextRead}
 use Rattle.laws.specs.Reply.{Reply, refusedAt, given}
@@ -15,12 +14,7 @@ use Rattle.registers.specs.Bursts.{RegisterWrite}
 use Rattle.script.specs.Traces.{writeRecords, traceOf}
 use Rattle.script.specs.Grammar.{noLineFeed}
 use Rattle.script.specs.Reading.{joinedTo, partsOf, callsFrom, scriptCalls}
-
--- the calls of a line, none where it has another shape
-abbrev pub callsIn : ScriptLine → List RegisterWrite
-callsIn OtherShape = []
-callsIn Blank = []
-callsIn (CallFound offset value) = record { offset = offset; value = value } ∷ []
+use Rattle.script.specs.FirstLines.{callsIn}
 
 -- so many bytes stand before the first line feed of a text, or in all
 pub record FirstScriptLine (text : List ℕ) (count : ℕ) : Type 0 where

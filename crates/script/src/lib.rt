@@ -6,8 +6,8 @@ use records::HUB_RECORD;
 use records::WRITE_RECORD;
 use text::TextRead;
 
-mod records;
-mod text;
+pub mod records;
+pub mod text;
 
 // The length of the trace, or why there is none; `line` is the number of the script's line that is refused.
 pub enum TraceAnswer {

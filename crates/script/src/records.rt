@@ -3,17 +3,18 @@ ghost use mathlib.Core.List.{[], _∷_};
 ghost use Rattle.buffers.specs.Putting.{Puts};
 ghost use Rattle.trace.specs.Framing.{recordBytes};
 ghost use Rattle.script.specs.Traces.{writeRecords};
-ghost use Rattle.script.specs.Contracts.{callsIn, PutsCalls, PutsTrace};
+ghost use Rattle.script.specs.FirstLines.{callsIn};
+ghost use Rattle.script.specs.Contracts.{PutsCalls, PutsTrace};
 use crate::text;
 use crate::text::NextScriptLine;
 use calls::ScriptLine;
 
 // The bytes of a hub record, and of a write record of one value.
-pub(crate) const HUB_RECORD: usize = 5;
+pub const HUB_RECORD: usize = 5;
 
-pub(crate) const WRITE_RECORD: usize = 6;
+pub const WRITE_RECORD: usize = 6;
 
-fn put_hub(out: &mut [u8], at: usize, address: u8) -> usize
+pub fn put_hub(out: &mut [u8], at: usize, address: u8) -> usize
     ensures { λ r. ⌜ Puts (now (out .entry)) at (recordBytes 0x00 (address ∷ [])) (now (out .exit)) r ⌝ }
 {
     let record = [0x9A, 0x64, 0x00, 1, address];
@@ -29,7 +30,7 @@ fn put_write(out: &mut [u8], at: usize, offset: u8, value: u8) -> usize
 }
 
 // The record of a line's call, where it has one.
-fn put_line(out: &mut [u8], at: usize, read: ScriptLine) -> usize
+pub fn put_line(out: &mut [u8], at: usize, read: ScriptLine) -> usize
     ensures { λ r. ⌜ Puts (now (out .entry)) at (writeRecords (callsIn read)) (now (out .exit)) r ⌝ }
 {
     let ScriptLine::Call { offset, value } = read else {

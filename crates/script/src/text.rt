@@ -4,14 +4,15 @@ ghost use Prim.Native.Nat.{_≤_, _<_};
 ghost use lib.ListN.{length, drop};
 ghost use Rattle.laws.specs.Reply.{onReply};
 ghost use Rattle.script.specs.Reading.{scriptCalls};
-ghost use Rattle.script.specs.Contracts.{callsIn, FirstScriptLine, NextScriptLineOf, callCountReply};
+ghost use Rattle.script.specs.FirstLines.{holdsScriptLine, firstLineReply, callsIn, nextLineReply, HasShape};
+ghost use Rattle.script.specs.Contracts.{FirstScriptLine, NextScriptLineOf, callCountReply};
 use calls::ScriptLine;
 
 // The most bytes of a line, without its line feed.
 const LONGEST_LINE: usize = 200;
 
 // The next line of a text: over 200 bytes, of another shape, or taken, with its length.
-pub(crate) enum NextScriptLine {
+pub enum NextScriptLine {
     TooLong,
     OtherShape,
     Taken { length: usize, read: ScriptLine },
@@ -38,12 +39,20 @@ fn line_length(text: &[u8]) -> usize
     place
 }
 
-// The next line of a text, from a place on.
-pub(crate) fn next_script_line(text: &[u8], at: usize) -> NextScriptLine
-    requires { ⌜ at < length (now text) ⌝ }
-    ensures { λ r. ⌜ NextScriptLineOf (drop at (now (text .entry))) r ⌝ }
+// Whether what the first line comes to is known, whatever follows the bytes.
+pub fn holds_script_line(bytes: &[u8]) -> bool
+    ensures { λ r. ⌜ r ≡ holdsScriptLine (now (bytes .entry)) ⌝ }
 {
-    let left = buffers::bytes_from(text, at);
+    if LONGEST_LINE < bytes.len() {
+        return true;
+    }
+    line_length(bytes) < bytes.len()
+}
+
+// What the first line of the bytes that are left comes to.
+pub fn first_script_line(left: &[u8]) -> NextScriptLine
+    ensures { λ r. ⌜ (nextLineReply r ≡ firstLineReply (now (left .entry))) × HasShape r ⌝ }
+{
     let length = line_length(left);
     if LONGEST_LINE < length {
         return NextScriptLine::TooLong;
@@ -57,6 +66,14 @@ pub(crate) fn next_script_line(text: &[u8], at: usize) -> NextScriptLine
     } else {
         NextScriptLine::Taken { length, read }
     }
+}
+
+// The next line of a text, from a place on.
+pub(crate) fn next_script_line(text: &[u8], at: usize) -> NextScriptLine
+    requires { ⌜ at < length (now text) ⌝ }
+    ensures { λ r. ⌜ NextScriptLineOf (drop at (now (text .entry))) r ⌝ }
+{
+    first_script_line(buffers::bytes_from(text, at))
 }
 
 // How many calls a line has.

@@ -59,9 +59,9 @@ pub rest-back : (kind : ℕ) (bytes rest : List ℕ)
 unfolding framingOf
 rest-back kind bytes rest = drop-at (recordBytes kind bytes) rest (4 + length bytes) (omega arith)
 
--- the data is no longer than the record
-pub data-most : (bytes : List ℕ) → length (dataOf bytes) ≤ recordLength bytes
-unfolding dataOf
+-- the data is no longer than the record after its head
+pub data-most : (bytes : List ℕ) → 4 + length (dataOf bytes) ≤ recordLength bytes
+unfolding dataOf framingOf
 data-most bytes =
     let frame = framingOf bytes in
     omega (arith, length-take (frame .count) (drop (frame .start) bytes), min-le-left (frame .count) (length (drop (frame .start) bytes)))

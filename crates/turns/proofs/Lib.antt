@@ -1,4 +1,4 @@
-pub mod WindowMoves
-pub mod MadeTurns
 pub mod PlayedWindows
+pub mod MadeTurns
+pub mod JoinedTurns
 pub mod FileLaws

@@ -2,123 +2,92 @@
 -- and the hub at its end is that of the file.
 -- Assumes nothing.
 use mathlib.Core.Path.{_≡_}
-use mathlib.Core.Bool.{Bool, true, false, cond, not, _&&_}
-use mathlib.Core.List.{List, [], _∷_, _++_}
-use Prim.Native.Nat.{ℕ, suc, _+_, _-_, _*_, _^_, _≤_, _<_, min}
-use lib.Dec.{eqb, ltb}
-use lib.ListN.{length, take, drop, replicate}
+use mathlib.Core.Bool.{Bool, true}
+use mathlib.Core.List.{List, _++_}
+use Prim.Native.Nat.{ℕ, _+_, _*_, _^_, _≤_, _<_}
+use lib.ListN.{length, take, replicate}
+use Rattle.laws.specs.Buffers.{written}
 use Rattle.laws.specs.Elements.{AreBytes}
+use Rattle.streams.specs.Streams.{newWindow, afterRead, nothingLeft, Work, Way, wayFrom, TurnInput, allTurns, AllLend}
+use Rattle.streams.specs.Streams.{StandsAt, ReadGave, IsNextTurn}
 use Rattle.trace.specs.Framing.{longestRecord}
 use Rattle.printing.specs.PrintedLines.{printedCounts}
 use Rattle.playback.specs.declared.Session.{Session}
 use Rattle.playback.specs.Playing.{packetRoom, playerText, endHub}
-use Rattle.playback.specs.Windows.{newSession, stateAt, playWindow, textRoom}
+use Rattle.playback.specs.Windows.{newSession, WindowState, stateAt, playWindow, textRoom}
 use Rattle.turns.specs.declared.FileRun.{FileRun}
-
--- The run between two turns: the session, the lent packet buffer, the bytes that were read and not played, and whether
--- the file has ended.
-pub record RunState : Type 0 where
-  pub session : Session
-  pub packets : List ℕ
-  pub left : List ℕ
-  pub last : Bool
+use Rattle.turns.specs.declared.TurnEnd.{TurnEnd}
 
 abbrev pub newRun : FileRun
-newRun = record { session = newSession; held = 0; last = false }
+newRun = record { session = newSession; window = newWindow }
 
--- bytes are to be read: the file has not ended, and the window has room after those that it holds
-abbrev pub wantsBytes : Bool → ℕ → ℕ → Bool
-wantsBytes last held size = not last && ltb held size
+-- the bytes of a window, played from its start as the player's definition says
+abbrev pub windowPlayed : Bool → Session → List ℕ → List ℕ → List ℕ → WindowState
+windowPlayed last session packets bytes out =
+    playWindow (length bytes) last (stateAt session bytes packets out 0)
 
--- the file has ended: it had, or the window has room and no byte was read
-abbrev pub fileEnded : Bool → ℕ → ℕ → ℕ → Bool
-fileEnded last held size got = cond last true (cond (ltb held size) (eqb got 0) false)
+-- The bytes were played; what is left of them stands at the start of the buffer, and the rest of the buffer stays.
+pub record TurnMade (last : Bool) (after : WindowState) (buffer : List ℕ)
+    (result : TurnEnd) (bufferAfter packets out : List ℕ) : Type 0 where
+  pub session : result .run .session ≡ after .session
+  pub window : result .run .window ≡ record { held = length (after .left); last = last }
+  pub left : bufferAfter ≡ written buffer 0 (after .left)
+  pub fits : length (after .left) ≤ length buffer
+  pub packetBuffer : packets ≡ after .packets
+  pub text : out ≡ after .out
+  pub end : result .end ≡ after .at
+  pub inside : after .at ≤ length out
+  pub done : result .done ≡ nothingLeft (after .session .ended) last (length (after .left))
 
--- nothing is left to play: the run has ended, or the file has and no byte of it is left
-abbrev pub nothingLeft : Bool → Bool → ℕ → Bool
-nothingLeft ended last left = cond ended true (last && eqb left 0)
+-- a turn plays the bytes that the window holds after the read
+abbrev pub MakesTurn : FileRun → ℕ → List ℕ → List ℕ → List ℕ → TurnEnd → List ℕ → List ℕ → List ℕ → Type 0
+MakesTurn run got buffer packets out result bufferAfter packetsAfter outAfter =
+    let window = afterRead (run .window) got (length buffer) in
+    TurnMade (window .last) (windowPlayed (window .last) (run .session) packets (take (window .held) buffer) out) buffer
+    result bufferAfter packetsAfter outAfter
 
--- A turn: the run after it, the lent buffer for text with the end of the text in it, and whether nothing is left to
--- play.
-pub record Turned : Type 0 where
-  pub run : RunState
-  pub out : List ℕ
-  pub end : ℕ
-  pub done : Bool
+-- The same as work on a file (`streams`): the state is the session with the lent packet buffer, and what is put out is
+-- the text.
+pub record PlayState : Type 0 where
+  pub session : Session
+  pub packets : List ℕ
 
--- The window is what was left with the new bytes after it, and it is played as the player's definition says.
-unfoldable pub turned : ℕ → RunState → List ℕ → List ℕ → Turned
-turned size run bytes out =
-    let window = run .left ++ bytes in
-    let last = fileEnded (run .last) (length (run .left)) size (length bytes) in
-    let after = playWindow (length window) last (stateAt (run .session) window (run .packets) out 0) in
+abbrev pub playing : Work PlayState
+playing last state bytes lent =
+    let after = windowPlayed last (state .session) (state .packets) bytes lent in
     record {
-      run = record { session = after .session; packets = after .packets; left = after .left; last = last };
-      out = after .out;
-      end = after .at;
-      done = nothingLeft (after .session .ended) last (length (after .left));
+      state = record { session = after .session; packets = after .packets };
+      left = after .left;
+      put = take (after .at) (after .out);
+      over = after .session .ended;
     }
 
--- A program's way through a file: the run, the bytes of the file that are not read, the text that was put out, and
--- whether nothing is left to play.
-pub record Progress : Type 0 where
-  pub run : RunState
-  pub unread : List ℕ
-  pub text : List ℕ
-  pub done : Bool
+abbrev pub playStart : PlayState
+playStart = record { session = newSession; packets = replicate packetRoom 0 }
 
-abbrev pub startOf : List ℕ → Progress
-startOf file =
-    record {
-      run = record { session = newSession; packets = replicate packetRoom 0; left = []; last = false };
-      unread = file;
-      text = [];
-      done = false;
-    }
-
--- What a turn of a program is given: how many bytes beyond the first its read gives, if there are so many and they
--- have room, and the buffer that is lent for text.
-pub record TurnInput : Type 0 where
-  pub more : ℕ
-  pub out : List ℕ
-
--- A read gives the next bytes of the file: one or more where there are any and there is room, and no more than have
--- room.
-abbrev pub bytesRead : ℕ → ℕ → List ℕ → List ℕ
-bytesRead room more unread = take (min (suc more) room) unread
-
-unfoldable pub nextTurn : ℕ → Progress → TurnInput → Progress
-nextTurn size at input =
-    let bytes = bytesRead (size - length (at .run .left)) (input .more) (at .unread) in
-    let made = turned size (at .run) bytes (input .out) in
-    record {
-      run = made .run;
-      unread = drop (length bytes) (at .unread);
-      text = at .text ++ take (made .end) (made .out);
-      done = made .done;
-    }
-
--- turns are made until nothing is left to play
-unfoldable pub allTurns : ℕ → Progress → List TurnInput → Progress
-allTurns size at [] = at
-allTurns size at (input ∷ inputs) = cond (at .done) at (allTurns size (nextTurn size at input) inputs)
+-- A turn of the source is a turn of that work: where the program stands at a way through a file, and its read gave what
+-- the way's next turn reads, its turn is that turn.
+abbrev pub TurnIsNext : Type 0
+TurnIsNext =
+    (way : Way PlayState) (input : TurnInput) (run : FileRun) (got : ℕ) (buffer packets : List ℕ) (result : TurnEnd)
+    (bufferAfter packetsAfter outAfter : List ℕ)
+    → StandsAt way (record { session = run .session; packets = packets }) (run .window) buffer
+    → ReadGave way input (run .window) got buffer
+    → MakesTurn run got buffer packets (input .lent) result bufferAfter packetsAfter outAfter
+    → IsNextTurn playing (length buffer) way input
+    (record { session = result .run .session; packets = packetsAfter }) (result .run .window) bufferAfter
+    (take (result .end) outAfter) (result .done)
 
 -- the run through the whole file, to its end
-pub record PlaysFile (file : List ℕ) (end : Progress) : Type 0 where
+pub record PlaysFile (file : List ℕ) (end : Way PlayState) : Type 0 where
   pub done : end .done ≡ true
-  pub text : end .text ++ printedCounts (end .run .session .records) (end .run .session .refusals) ≡ playerText file
-  pub hub : end .run .session .hub ≡ endHub file
+  pub text : end .put ++ printedCounts (end .state .session .records) (end .state .session .refusals) ≡ playerText file
+  pub hub : end .state .session .hub ≡ endHub file
 
--- every buffer that is lent for text has room for a line
-abbrev pub LinesHaveRoom : List TurnInput → Type 0
-LinesHaveRoom [] = Unit {0}
-LinesHaveRoom (input ∷ inputs) = (textRoom ≤ length (input .out)) × LinesHaveRoom inputs
-
--- However the bytes of a file are read, into a window of any size that holds a record: the run ends within so many
--- turns, with the player's text and the hub of the file's end. (Each turn takes bytes, plays a record or finds that the
--- file has ended.)
+-- However the bytes of a file are read, into a buffer of any size that holds a record: the run ends within so many
+-- turns, with the player's text and the hub of the file's end.
 abbrev pub HoweverCut : Type 0
 HoweverCut =
     (file : List ℕ) (size : ℕ) (inputs : List TurnInput) → AreBytes file → length file < 2 ^ 64
-    → longestRecord ≤ size → LinesHaveRoom inputs → 2 * length file + 1 ≤ length inputs
-    → PlaysFile file (allTurns size (startOf file) inputs)
+    → longestRecord ≤ size → AllLend textRoom inputs → 2 * length file + 1 ≤ length inputs
+    → PlaysFile file (allTurns playing size (wayFrom playStart file) inputs)

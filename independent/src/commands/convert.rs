@@ -2,29 +2,23 @@
 //! output, and what it means on standard error.
 
 use super::{cannot_print, cannot_write, Failure};
-use independent::generate::scripts::MOST_BYTES;
 use independent::model::convert::{to_text, to_trace, Refused};
 use std::ffi::OsString;
-use std::fs::File;
+use std::fs;
 use std::io::{self, Read, Write};
 use std::path::Path;
 
 pub fn trace(address: &OsString, script: &Path, out: &Path) -> Result<(), Failure> {
     let address = hex_byte(&address.to_string_lossy())?;
-    let Some(text) = read(script)? else {
-        return too_long(script);
-    };
+    let text = read(script)?;
     match to_trace(address, &text) {
-        Ok(trace) => std::fs::write(out, trace).map_err(|error| cannot_write(out, error)),
+        Ok(trace) => fs::write(out, trace).map_err(|error| cannot_write(out, error)),
         Err(refused) => print_refusal(script, refused),
     }
 }
 
 pub fn text(trace: &Path) -> Result<(), Failure> {
-    let Some(bytes) = read(trace)? else {
-        return too_long(trace);
-    };
-    match to_text(&bytes) {
+    match to_text(&read(trace)?) {
         Ok(text) => io::stdout().write_all(&text).map_err(cannot_print),
         Err(refused) => print_refusal(trace, refused),
     }
@@ -38,30 +32,19 @@ fn hex_byte(text: &str) -> Result<u8, Failure> {
     byte.ok_or_else(problem)
 }
 
-/// The file, or standard input for -; nothing if it is too long.
-fn read(path: &Path) -> Result<Option<Vec<u8>>, Failure> {
-    let mut bytes = Vec::new();
-    let most = MOST_BYTES as u64 + 1;
+/// The whole file, or standard input for -.
+fn read(path: &Path) -> Result<Vec<u8>, Failure> {
     let got = if path.as_os_str() == "-" {
-        io::stdin().take(most).read_to_end(&mut bytes)
+        let mut bytes = Vec::new();
+        io::stdin().read_to_end(&mut bytes).map(|_| bytes)
     } else {
-        File::open(path).and_then(|file| file.take(most).read_to_end(&mut bytes))
+        fs::read(path)
     };
     let cannot_read = |error| format!("cannot read {}: {error}", path.display());
-    let got = got.map_err(|error| Failure::Work(cannot_read(error)))?;
-    Ok((got <= MOST_BYTES).then_some(bytes))
+    got.map_err(|error| Failure::Work(cannot_read(error)))
 }
 
 /// Exit status 0, as the proved program has no other.
-fn too_long(path: &Path) -> Result<(), Failure> {
-    let _ = writeln!(
-        io::stderr(),
-        "{} has more than {MOST_BYTES} bytes",
-        path.display()
-    );
-    Ok(())
-}
-
 fn print_refusal(path: &Path, refused: Refused) -> Result<(), Failure> {
     let _ = writeln!(io::stderr(), "{} is refused", path.display());
     writeln!(io::stdout(), "{refused}").map_err(cannot_print)

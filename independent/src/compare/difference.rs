@@ -42,7 +42,6 @@ pub fn earlier(first: Option<Difference>, second: Option<Difference>) -> Option<
 #[derive(Clone, Copy, Debug, PartialEq, Eq)]
 pub enum ExpectedStderr {
     Nothing,
-    Something,
     OneLine,
 }
 
@@ -67,7 +66,6 @@ fn wrong_stderr(text: &[u8], expected: ExpectedStderr) -> Option<String> {
     let one_line = ends && lines.next().is_none();
     let wrong = match expected {
         ExpectedStderr::Nothing if !text.is_empty() => "is not empty",
-        ExpectedStderr::Something if text.is_empty() => "is empty",
         ExpectedStderr::OneLine if !one_line => "is not one line",
         _ => return None,
     };

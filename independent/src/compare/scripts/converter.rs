@@ -9,9 +9,11 @@ use std::fs;
 use std::io;
 use std::path::{Path, PathBuf};
 
-/// The converter under test, the file it is given, and the file it writes a trace to.
+/// The converter under test, its folder, and there the file it is given and the file it writes a
+/// trace to.
 pub struct Converter<'a> {
     program: Program<'a>,
+    folder: PathBuf,
     given: PathBuf,
     out: PathBuf,
 }
@@ -26,6 +28,7 @@ impl Converter<'_> {
     pub fn new<'a>(folder: &Path, program: Program<'a>) -> Converter<'a> {
         Converter {
             program,
+            folder: folder.to_path_buf(),
             given: folder.join("given"),
             out: folder.join("out.trace"),
         }
@@ -37,8 +40,10 @@ impl Converter<'_> {
         let run = self.run(job, way, stdout.len() as u64)?;
         let file = self.read_out()?;
         let right_file = outcome.file(job, way.old.as_deref());
+        let left_behind = self.left_behind()?;
         let wrong = what_is_wrong(&run, &stdout, outcome.stderr())
-            .or_else(|| wrong_file(right_file, file.as_deref()));
+            .or_else(|| wrong_file(right_file, file.as_deref()))
+            .or(left_behind);
         Ok(wrong.map(|what| {
             let mut files = input_files(job, way);
             files.push(("expected.txt", stdout));
@@ -66,27 +71,35 @@ impl Converter<'_> {
 
     fn run(&self, job: &Job, way: &Way, expected: u64) -> io::Result<Run> {
         let (given, out) = (self.given.as_os_str(), self.out.as_os_str());
-        let write = |bytes: &[u8]| {
-            fs::write(given, bytes).map_err(|error| with_context(error, "write", &self.given))
+        let (Job::Text { trace: bytes } | Job::Trace { text: bytes, .. }) = job;
+        let (given, input) = if way.piped {
+            ("-".as_ref(), Some(&bytes[..]))
+        } else {
+            let cannot_write = |error| with_context(error, "write", &self.given);
+            fs::write(given, bytes).map_err(cannot_write)?;
+            (given, None)
         };
+        let call = |arguments: &[&OsStr]| self.program.run(arguments, input, expected);
         match job {
-            Job::Text { trace } => {
-                write(trace)?;
-                self.program.run(&["text".as_ref(), given], None, expected)
-            }
-            Job::Trace { address, text } => {
+            Job::Text { .. } => call(&["text".as_ref(), given]),
+            Job::Trace { address, .. } => {
                 let address = shown_address(*address, way.capitals);
-                let call = |given: &OsStr, input| {
-                    let arguments = ["trace".as_ref(), address.as_ref(), given, out];
-                    self.program.run(&arguments, input, expected)
-                };
-                if way.piped {
-                    return call("-".as_ref(), Some(text));
-                }
-                write(text)?;
-                call(given, None)
+                call(&["trace".as_ref(), address.as_ref(), given, out])
             }
         }
+    }
+
+    /// Says so where the program left another file beside the trace's.
+    fn left_behind(&self) -> io::Result<Option<String>> {
+        let cannot_list = |error| with_context(error, "list", &self.folder);
+        for entry in fs::read_dir(&self.folder).map_err(cannot_list)? {
+            let path = entry.map_err(cannot_list)?.path();
+            if path != self.given && path != self.out {
+                let name = path.file_name().unwrap_or_default().to_string_lossy();
+                return Ok(Some(format!("the file {name} was left behind")));
+            }
+        }
+        Ok(None)
     }
 
     /// The trace's file as it is after the run.
@@ -126,12 +139,12 @@ fn wrong_file(right: Option<&[u8]>, found: Option<&[u8]>) -> Option<String> {
 
 /// The call and what went in.
 fn input_files(job: &Job, way: &Way) -> Files {
+    let from = |name| if way.piped { "-" } else { name };
     let (call, ending, given) = match job {
-        Job::Text { trace } => ("convert text TRACE\n".into(), "trace", trace),
+        Job::Text { trace } => (format!("convert text {}\n", from("TRACE")), "trace", trace),
         Job::Trace { address, text } => {
             let address = shown_address(*address, way.capitals);
-            let script = if way.piped { "-" } else { "SCRIPT" };
-            let call = format!("convert trace {address} {script} OUT\n");
+            let call = format!("convert trace {address} {} OUT\n", from("SCRIPT"));
             (call, "script", text)
         }
     };

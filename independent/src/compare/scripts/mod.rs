@@ -2,6 +2,7 @@
 //! under test and by the model, byte for byte, until the first difference. A text that was made
 //! from a trace is turned back.
 
+mod border_points;
 mod converter;
 mod line_points;
 mod outcome;

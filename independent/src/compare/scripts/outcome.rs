@@ -1,22 +1,18 @@
 //! What must come of a job: what the program prints, and what it writes into the trace's file.
 
 use crate::compare::difference::ExpectedStderr;
-use crate::generate::scripts::{Job, MOST_BYTES};
+use crate::generate::scripts::Job;
 use crate::model::convert::{to_text, to_trace, Refused};
 
 #[derive(Clone, Debug, PartialEq, Eq)]
 pub enum Outcome {
     Taken(Vec<u8>),
     Refused(Refused),
-    /// More bytes than the program takes; that is no refusal.
-    TooLong,
 }
 
 impl Outcome {
     pub fn of(job: &Job) -> Outcome {
         let turned = match job {
-            Job::Trace { text, .. } if text.len() > MOST_BYTES => return Outcome::TooLong,
-            Job::Text { trace } if trace.len() > MOST_BYTES => return Outcome::TooLong,
             Job::Trace { address, text } => to_trace(*address, text),
             Job::Text { trace } => to_text(trace),
         };
@@ -27,7 +23,6 @@ impl Outcome {
         match self {
             Outcome::Taken(_) => "taken",
             Outcome::Refused(_) => "refused",
-            Outcome::TooLong => "not taken",
         }
     }
 
@@ -43,8 +38,7 @@ impl Outcome {
     pub fn stderr(&self) -> ExpectedStderr {
         match self {
             Outcome::Taken(_) => ExpectedStderr::Nothing,
-            Outcome::Refused(_) => ExpectedStderr::Something,
-            Outcome::TooLong => ExpectedStderr::OneLine,
+            Outcome::Refused(_) => ExpectedStderr::OneLine,
         }
     }
 

@@ -1,22 +1,32 @@
 //! The points that a comparison of converters must reach.
 
 use super::outcome::Outcome;
-use super::{text_points, trace_points};
+use super::{border_points, text_points, trace_points};
 use crate::compare::coverage::Coverage;
 use crate::generate::scripts::{Case, Job};
 
-pub const POINTS: &[&str] = &[
+/// All points, those at the borders last.
+pub const POINTS: &[&str] = &joined::<{ ELSEWHERE.len() + border_points::POINTS.len() }>();
+
+const fn joined<const COUNT: usize>() -> [&'static str; COUNT] {
+    let mut all = [""; COUNT];
+    let mut place = 0;
+    while place < COUNT {
+        all[place] = if place < ELSEWHERE.len() {
+            ELSEWHERE[place]
+        } else {
+            border_points::POINTS[place - ELSEWHERE.len()]
+        };
+        place += 1;
+    }
+    all
+}
+
+const ELSEWHERE: &[&str] = &[
     "a text from a file",
     "a text from standard input",
-    "262144 bytes taken from a file",
-    "262144 bytes taken from standard input",
-    "262144 bytes refused from a file",
-    "262144 bytes refused from standard input",
-    "262145 bytes not taken from a file",
-    "262145 bytes not taken from standard input",
-    "262144 bytes taken from a trace",
-    "262144 bytes refused from a trace",
-    "262145 bytes not taken from a trace",
+    "a trace from a file",
+    "a trace from standard input",
     "the file made",
     "a file replaced",
     "a longer file replaced",
@@ -156,13 +166,25 @@ pub const POINTS: &[&str] = &[
     "16 before writes",
     "16 before a 13 of a trace",
     "a trace's text read again",
-    "a trace's text too long to be read again",
 ];
 
 /// The points that a case reaches.
 pub fn note(coverage: &mut Coverage, case: &Case, outcome: &Outcome) {
+    let source = if case.way.piped {
+        "standard input"
+    } else {
+        "a file"
+    };
     match &case.job {
-        Job::Trace { address, text } => text_points::note(coverage, case, *address, text, outcome),
-        Job::Text { trace } => trace_points::note(coverage, trace, outcome),
+        Job::Trace { address, text } => {
+            coverage.note(&format!("a text from {source}"));
+            border_points::note_text(coverage, text, source, outcome);
+            text_points::note(coverage, case, *address, text, outcome);
+        }
+        Job::Text { trace } => {
+            coverage.note(&format!("a trace from {source}"));
+            border_points::note_trace(coverage, trace, source, outcome);
+            trace_points::note(coverage, trace, outcome);
+        }
     }
 }

@@ -4,22 +4,12 @@ use super::converter::shown_address;
 use super::line_points;
 use super::outcome::Outcome;
 use crate::compare::coverage::Coverage;
-use crate::generate::scripts::{Case, Kind, MOST_BYTES};
+use crate::generate::scripts::{Case, Kind};
 use crate::model::convert::{pieces, to_trace, Refused};
 use crate::model::refusal::Refusal;
 use crate::model::script_line::{read_shape, LONGEST_LINE};
 
 pub fn note(coverage: &mut Coverage, case: &Case, address: u8, text: &[u8], outcome: &Outcome) {
-    let source = if case.way.piped {
-        "standard input"
-    } else {
-        "a file"
-    };
-    coverage.note(&format!("a text from {source}"));
-    if text.len() >= MOST_BYTES {
-        let (length, what) = (text.len(), outcome.name());
-        coverage.note(&format!("{length} bytes {what} from {source}"));
-    }
     note_edit(coverage, case.kind, outcome);
     note_file(coverage, case.way.old.as_deref(), outcome);
     match outcome {
@@ -33,7 +23,6 @@ pub fn note(coverage: &mut Coverage, case: &Case, address: u8, text: &[u8], outc
                 coverage.note(case.wrong.unwrap_or_default());
             }
         }
-        Outcome::TooLong => {}
     }
 }
 
@@ -54,7 +43,6 @@ fn note_file(coverage: &mut Coverage, old: Option<&[u8]>, outcome: &Outcome) {
         (Outcome::Taken(_), Some(_)) => "a file replaced",
         (Outcome::Refused(_), None) => "no file made by a refusal",
         (Outcome::Refused(_), Some(_)) => "a file unchanged by a refusal",
-        (Outcome::TooLong, _) => return,
     });
 }
 

@@ -3,25 +3,16 @@
 use super::outcome::Outcome;
 use crate::compare::coverage::Coverage;
 use crate::compare::players::points::malformed;
-use crate::generate::scripts::MOST_BYTES;
 use crate::model::convert::to_text;
 use crate::model::hub::Hub;
 use crate::model::trace::{Malformed, Record, RecordReader, HUB_ADDRESS, WRITE};
 use crate::model::trace_builder::TraceBuilder;
 
 pub fn note(coverage: &mut Coverage, trace: &[u8], outcome: &Outcome) {
-    if trace.len() >= MOST_BYTES {
-        let (length, what) = (trace.len(), outcome.name());
-        coverage.note(&format!("{length} bytes {what} from a trace"));
-    }
     match outcome {
-        Outcome::TooLong => return,
         Outcome::Refused(_) => {}
         Outcome::Taken(text) if text.is_empty() => coverage.note("the hub record alone"),
-        Outcome::Taken(text) if text.len() <= MOST_BYTES => {
-            coverage.note("a trace's text read again");
-        }
-        Outcome::Taken(_) => coverage.note("a trace's text too long to be read again"),
+        Outcome::Taken(_) => coverage.note("a trace's text read again"),
     }
     note_records(coverage, trace);
 }

@@ -1,9 +1,9 @@
 //! The kinds of cases there are, and their order.
 
-/// `Limit` and `Empty` are texts and traces; then come texts, and from `EveryByte` on traces.
+/// `Border` and `Empty` are texts and traces; then come texts, and from `EveryByte` on traces.
 #[derive(Clone, Copy, Debug, PartialEq, Eq)]
 pub enum Kind {
-    Limit,
+    Border,
     Empty,
     Sample,
     Right,
@@ -67,7 +67,7 @@ pub const SCHEDULE: [Kind; 30] = [
 impl Kind {
     pub fn name(self) -> &'static str {
         match self {
-            Kind::Limit => "limit",
+            Kind::Border => "border",
             Kind::Empty => "empty",
             Kind::Sample => "sample",
             Kind::Right => "right lines",

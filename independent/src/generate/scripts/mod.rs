@@ -1,15 +1,15 @@
 //! Seeded cases for the program that turns installers' scripts into traces and back.
 
+mod borders;
 mod edits;
 mod kinds;
-mod limits;
 mod lines;
 mod texts;
 mod traces;
 mod wrong;
 
+pub use borders::WINDOW;
 pub use kinds::Kind;
-pub use limits::MOST_BYTES;
 
 use crate::generate::rng::Rng;
 use crate::generate::samples::SCRIPTS;
@@ -23,10 +23,10 @@ pub enum Job {
     Text { trace: Vec<u8> },
 }
 
-/// How it is called where it makes a trace.
+/// How it is called; the address and the trace's file are for a text alone.
 #[derive(Clone, Debug, PartialEq, Eq)]
 pub struct Way {
-    /// Whether the text comes through standard input.
+    /// Whether the text or the trace comes through standard input.
     pub piped: bool,
     /// Whether the address is written with capitals.
     pub capitals: bool,
@@ -46,8 +46,8 @@ pub struct Case {
 const SAMPLES: u64 = SCRIPTS.len() as u64;
 const EMPTY_TRACE: u64 = SAMPLES + 1;
 const EVERY_BYTE: u64 = SAMPLES + 2;
-const LIMITS: u64 = SAMPLES + 3;
-const REST: u64 = LIMITS + limits::TURNS as u64;
+const BORDERS: u64 = SAMPLES + 3;
+const REST: u64 = BORDERS + borders::TURNS as u64;
 
 /// The case with this number in the comparison of a seed.
 pub fn numbered(seed: u64, number: u64) -> Case {
@@ -56,14 +56,14 @@ pub fn numbered(seed: u64, number: u64) -> Case {
         0..SAMPLES => (Kind::Sample, number),
         SAMPLES | EMPTY_TRACE => (Kind::Empty, number - SAMPLES),
         EVERY_BYTE => (Kind::EveryByte, 0),
-        LIMITS..REST => (Kind::Limit, number - LIMITS),
+        BORDERS..REST => (Kind::Border, number - BORDERS),
         _ => scheduled(&SCHEDULE, number - REST),
     };
     let turn = turn as usize;
     let (job, wrong) = job(kind, &mut rng, turn);
     let mut way = way(&mut rng);
-    if kind == Kind::Limit {
-        way.piped = limits::is_piped(turn);
+    if kind == Kind::Border {
+        way.piped = borders::is_piped(turn);
     }
     Case {
         kind,
@@ -84,8 +84,8 @@ fn way(rng: &mut Rng) -> Way {
 }
 
 fn job(kind: Kind, rng: &mut Rng, turn: usize) -> (Job, Option<&'static str>) {
-    if kind == Kind::Limit {
-        return (limits::job(rng, turn), None);
+    if kind == Kind::Border {
+        return (borders::job(rng, turn), None);
     }
     if let Some(trace) = trace(kind, rng, turn) {
         return (Job::Text { trace }, None);

@@ -85,7 +85,8 @@ pub fn wrong(rng: &mut Rng, turn: usize) -> (&'static str, Vec<u8>) {
     (point, text)
 }
 
-fn any_wrong(rng: &mut Rng) -> Vec<u8> {
+/// A line of another shape.
+pub fn any_wrong(rng: &mut Rng) -> Vec<u8> {
     let turn = rng.index(wrong::TURNS);
     wrong::line(rng, turn).1
 }

@@ -1,15 +1,15 @@
--- `convert::show::line_end` meets its contract. The loop's invariant: the place is not before the start.
+-- `convert::show::line_end` meets its contract: the loop goes over the bytes once.
 -- Assumes nothing.
-use Prim.Native.Nat.{_-_, _≤_}
+use Prim.Native.Nat.{_-_}
 use borrow.Author.Needs.{needs}
 use Rattle.convert.proofs.show.line_end.Statement.{statement}
 use Rattle.convert.proofs.show.line_end.Tie as tie
 
 abbrev Inv-loop : tie.InvT-loop
-Inv-loop text start place₀ place-end place = start ≤ place
+Inv-loop text place₀ place-end place = Unit {0}
 
 abbrev μ-loop : tie.MeasureT-loop
-μ-loop text start place₀ place-end place = place-end - place
+μ-loop text place₀ place-end place = place-end - place
 
 loop-holds : tie.Need-loop-holds Inv-loop μ-loop
 loop-holds c = search needs

@@ -8,11 +8,11 @@ use Rattle.player.proofs.run.play_all.Tie as tie
 use Rattle.turns.proofs.new_run.Reads as new-run-reads
 
 abbrev Inv-loop : tie.InvT-loop
-Inv-loop fd path window₀ packets₀ out₀ run₀ over₀ turns₀ window packets out run over turns =
-    (length window ≡ length window₀) × (length packets ≡ length packets₀) × (length out ≡ length out₀)
+Inv-loop fd path buffer₀ packets₀ out₀ run₀ over₀ turns₀ buffer packets out run over turns =
+    (length buffer ≡ length buffer₀) × (length packets ≡ length packets₀) × (length out ≡ length out₀)
 
 abbrev μ-loop : tie.MeasureT-loop
-μ-loop fd path window₀ packets₀ out₀ run₀ over₀ turns₀ window packets out run over turns = turns
+μ-loop fd path buffer₀ packets₀ out₀ run₀ over₀ turns₀ buffer packets out run over turns = turns
 
 new-run-requires : tie.Need-new-run-requires Inv-loop μ-loop
 new-run-requires c κs = search needs

@@ -18,8 +18,8 @@ read-after-requires : tie.Need-read-after-requires
 read-after-requires c κs =
     let asked = c .before .before in
     let x = asked .before .before .before .args in
-    let tests = both (not (x .run .last)) (ltb (x .run .held) (length (x .window .now))) (sym (asked .wants-bytes .ensures) ∙ c .before .if1 .taken) in
-    omega (arith, ltb-true (x .run .held) (length (x .window .now)) (tests .1))
+    let tests = both (not (x .window .last)) (ltb (x .window .held) (length (x .buffer .now))) (sym (asked .wants-bytes .ensures) ∙ c .before .if1 .taken) in
+    omega (arith, ltb-true (x .window .held) (length (x .buffer .now)) (tests .1))
 
 same-length : tie.Need-same-length
 same-length c = search needs

@@ -11,7 +11,8 @@ use Rattle.buffers.specs.Putting.{Puts}
 use Rattle.buffers.proofs.PutLaws.{put-nothing, put-then, puts-length}
 use Rattle.registers.specs.Bursts.{RegisterWrite}
 use Rattle.script.specs.Traces.{writeRecords}
-use Rattle.script.specs.Contracts.{callsIn, TakenScriptLine}
+use Rattle.script.specs.FirstLines.{callsIn}
+use Rattle.script.specs.Contracts.{TakenScriptLine}
 use Rattle.script.proofs.TextLaws.{next-refused, Passed, passed-none, passed-refused, passed-more, passed-all}
 use Rattle.script.proofs.TraceLaws.{writes-append}
 use Rattle.script.proofs.records.put_calls.Statement.{statement}

@@ -5,7 +5,7 @@ use types.Run.{miss}
 use borrow.Author.Needs.{needs}
 use Rattle.buffers.proofs.PutLaws.{put-nothing}
 use Rattle.script.specs.Traces.{writeRecords}
-use Rattle.script.proofs.TextLaws.{no-call}
+use Rattle.script.proofs.FirstLineLaws.{no-call}
 use Rattle.script.proofs.records.put_line.Statement.{statement}
 use Rattle.script.proofs.records.put_line.Tie as tie
 

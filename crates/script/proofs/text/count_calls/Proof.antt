@@ -10,7 +10,8 @@ use lib.ListN.{length, drop, length-drop, length-append}
 use Rattle.laws.specs.Reply.{refusedAt, onReply}
 use Rattle.registers.specs.Bursts.{RegisterWrite}
 use Rattle.script.specs.Reading.{partsOf, callsFrom, scriptCalls}
-use Rattle.script.specs.Contracts.{callsIn, TakenScriptLine}
+use Rattle.script.specs.FirstLines.{callsIn}
+use Rattle.script.specs.Contracts.{TakenScriptLine}
 use Rattle.script.proofs.TextLaws.{Passed, passed-none, passed-refused, passed-more, passed-all}
 use Rattle.script.proofs.text.count_calls.Statement.{statement}
 use Rattle.script.proofs.text.count_calls.Tie as tie

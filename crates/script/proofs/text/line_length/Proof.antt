@@ -9,7 +9,7 @@ use borrow.Author.Tests.{ne-eqb}
 use lib.Dec.{eqb}
 use lib.ListN.{length, getD, take}
 use Rattle.script.specs.Grammar.{noLineFeed}
-use Rattle.script.proofs.TextLaws.{all-more}
+use Rattle.script.proofs.FirstLineLaws.{all-more}
 use Rattle.script.proofs.text.line_length.Statement.{statement}
 use Rattle.script.proofs.text.line_length.Tie as tie
 

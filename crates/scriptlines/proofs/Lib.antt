@@ -1,0 +1,4 @@
+pub mod LineLaws
+pub mod MadeTurns
+pub mod FileLaws
+pub mod JoinedTurns

@@ -1,0 +1,3 @@
+pub mod TakenLines
+pub mod ScriptFiles
+pub mod Contracts

@@ -1,0 +1,6 @@
+pub mod ListedOne
+pub mod RecordLaws
+pub mod WindowLaws
+pub mod TurnLaws
+pub mod FileLaws
+pub mod JoinedTurns

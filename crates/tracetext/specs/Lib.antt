@@ -1,0 +1,2 @@
+pub mod TextWindows
+pub mod TextFiles
