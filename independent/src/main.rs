@@ -13,7 +13,7 @@ use std::path::Path;
 use std::process::ExitCode;
 
 const USAGE: &str = "use: independent play FILE | cases | samples FOLDER | \
-convert trace ADDRESS SCRIPT OUT | convert text TRACE | \
+convert trace ADDRESS SCRIPT OUT PART | convert text TRACE | \
 compare PLAYER [--seed S] [--count N] [--keep DIR] [--tally] | \
 compare-scripts CONVERT [--seed S] [--count N] [--keep DIR] [--tally] | \
 generate SEED KIND OUT | generate SEED large RECORDS OUT | bench PLAYER";
@@ -40,7 +40,7 @@ fn run(arguments: &[OsString]) -> Result<(), Failure> {
         ("play", [file]) => play::run(Path::new(file)),
         ("cases", []) => compare::print_cases(),
         ("samples", [folder]) => generate::samples(Path::new(folder)),
-        ("convert", [what, address, script, out]) if what == "trace" => {
+        ("convert", [what, address, script, out, _part]) if what == "trace" => {
             convert::trace(address, Path::new(script), Path::new(out))
         }
         ("convert", [what, trace]) if what == "text" => convert::text(Path::new(trace)),

@@ -22,7 +22,7 @@ fn what(findings: &Findings) -> &str {
 
 #[test]
 fn a_right_player_passes_and_too_few_traces_do_not() {
-    let findings = TestFolder::new("right").findings("exec OWN play \"$1\"");
+    let findings = TestFolder::new("right").findings("exec OWN \"$@\"");
     assert!(findings.difference.is_none());
     assert_eq!(findings.traces, 60);
     assert!(PLAYERS
@@ -34,7 +34,7 @@ fn a_right_player_passes_and_too_few_traces_do_not() {
 #[test]
 fn a_changed_line_is_found_and_kept() {
     let folder = TestFolder::new("changed");
-    let findings = folder.findings("OWN play \"$1\" | sed 's/^12 ! 1$/12 ! 3/'");
+    let findings = folder.findings("OWN \"$@\" | sed 's/^12 ! 1$/12 ! 3/'");
     let difference = findings.difference.unwrap();
     assert_eq!((difference.number, difference.kind), (0, "case"));
     let expected = r#"line 12 should be "12 ! 1\n" and is "12 ! 3\n""#;
@@ -50,7 +50,7 @@ fn a_changed_line_is_found_and_kept() {
 
 #[test]
 fn a_missing_last_newline_is_found() {
-    let findings = TestFolder::new("newline").findings("printf %s \"$(OWN play \"$1\")\"");
+    let findings = TestFolder::new("newline").findings("printf %s \"$(OWN \"$@\")\"");
     assert!(what(&findings).starts_with("line 14 should be"));
 }
 
@@ -62,13 +62,13 @@ fn missing_output_is_found() {
 
 #[test]
 fn words_on_standard_error_are_found() {
-    let findings = TestFolder::new("words").findings("echo hm >&2; exec OWN play \"$1\"");
+    let findings = TestFolder::new("words").findings("echo hm >&2; exec OWN \"$@\"");
     assert!(what(&findings).contains("standard error is not empty: \"hm\""));
 }
 
 #[test]
 fn a_failing_exit_is_found() {
-    let findings = TestFolder::new("exit").findings("OWN play \"$1\"; exit 3");
+    let findings = TestFolder::new("exit").findings("OWN \"$@\"; exit 3");
     assert!(what(&findings).contains("exit status: 3"));
 }
 
@@ -84,7 +84,7 @@ fn a_player_that_takes_too_long_is_ended() {
 #[test]
 fn a_player_that_closes_its_outputs_and_stays_is_ended() {
     let folder = TestFolder::new("staying");
-    let mut settings = folder.settings("OWN play \"$1\"; exec sleep 3 >&- 2>&-", 60);
+    let mut settings = folder.settings("OWN \"$@\"; exec sleep 3 >&- 2>&-", 60);
     settings.time_limit = Duration::from_millis(300);
     let findings = PLAYERS.run(&settings).unwrap();
     assert!(what(&findings).contains("did not come to an end"));

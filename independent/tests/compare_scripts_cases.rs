@@ -92,11 +92,11 @@ fn a_refusal_that_touches_the_trace_file_is_found() {
 
 #[test]
 fn a_trace_file_that_is_not_made_or_not_cut_is_found() {
-    let script = "[ $1 = text ] && exec OWN convert \"$@\"; OWN convert trace $2 $3 /dev/null";
+    let script = "[ $1 = text ] && exec OWN convert \"$@\"; OWN convert trace $2 $3 /dev/null -";
     let what = found("not-made", script);
     assert!(what.starts_with("the trace's file"), "{what}");
     let script = "[ $1 = text ] && exec OWN convert \"$@\"
-OWN convert trace $2 $3 \"$4.new\"
+OWN convert trace $2 $3 \"$4.new\" -
 [ ! -e \"$4.new\" ] || dd if=\"$4.new\" of=\"$4\" conv=notrunc 2>/dev/null; rm -f \"$4.new\"";
     let what = found("not-cut", script);
     assert!(what.contains("bytes and has 5000"), "{what}");
@@ -108,7 +108,7 @@ fn a_file_that_is_left_behind_is_found() {
     let expected = "the file out.trace.part was left behind";
     assert_eq!(found("part-left", script), expected);
     let script = "[ $1 = text ] && exec OWN convert \"$@\"
-OWN convert trace $2 $3 \"$4.part\"; [ -e \"$4.part\" ] && exec mv \"$4.part\" \"$4\"; : >\"$4.part\"";
+OWN convert trace $2 $3 \"$4.part\" -; [ -e \"$4.part\" ] && exec mv \"$4.part\" \"$4\"; : >\"$4.part\"";
     assert_eq!(found("part-left-by-a-refusal", script), expected);
 }
 
@@ -122,6 +122,13 @@ fn wrong_streams_are_found() {
     let what = found("words-twice", twice);
     assert!(
         what.starts_with("its standard error is not one line"),
+        "{what}"
+    );
+    let first_only = "e=$0.$$; OWN convert \"$@\" 2>$e; head -n 1 $e >&2; rm $e";
+    let what = found("first-line-only", first_only);
+    let missing = "should begin with \"loopcinder trace: line";
+    assert!(
+        what.contains(missing) && what.ends_with("and is missing"),
         "{what}"
     );
     let what = found("done", "OWN convert \"$@\"; [ $1 = text ] || echo done");
@@ -142,7 +149,7 @@ fn a_converter_that_takes_too_much_is_found() {
     for (name, change, expected) in changes {
         let script = format!(
             "[ $1 = text ] && exec OWN convert \"$@\"
-cat $3 | {change} | OWN convert trace $2 - \"$4\""
+cat $3 | {change} | OWN convert trace $2 - \"$4\" -"
         );
         let findings = TestFolder::new(name).findings(&script, 2500);
         let what = findings.difference.unwrap().what;

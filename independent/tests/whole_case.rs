@@ -49,7 +49,8 @@ fn prints_as_document_01() {
         totals,
         Totals {
             records: 13,
-            refused: 1
+            refused: 1,
+            ended: false,
         }
     );
 }

@@ -3,10 +3,12 @@ ghost use Prim.Native.Nat.{_≤_};
 ghost use lib.ListN.{length};
 ghost use Rattle.trace.specs.Framing.{longestRecord};
 ghost use Rattle.listing.specs.Listing.{longestText};
-use crate::input;
-use crate::input::Read;
-use crate::say;
-use crate::spool;
+use console::input;
+use console::input::Read;
+use console::say;
+use console::say::Command;
+use console::spool;
+use console::status::Status;
 use libc::STDOUT_FILENO;
 use tracetext::TextFile;
 use tracetext::TextRefusal;
@@ -20,18 +22,19 @@ struct Progress {
 }
 
 // Writes the first bytes of the text, or says that they cannot be written.
-fn write_text(text: &[u8], end: usize) -> bool
+fn write_text(command: Command, text: &[u8], end: usize) -> bool
     requires { ⌜ end ≤ length (now text) ⌝ }
 {
     if io::write_all(STDOUT_FILENO, &text[0..end]) {
         return true;
     }
-    os::fail(b"convert: cannot write the text");
+    say::failed(command, b"cannot write the text");
     false
 }
 
 // Reads, and makes the text of the records that were read; writes it where it is to be printed.
 fn take_turn(
+    command: Command,
     fd: i32,
     path: &[u8],
     file: TextFile,
@@ -39,7 +42,7 @@ fn take_turn(
     buffer: &mut [u8],
     text: &mut [u8],
 ) -> Progress {
-    match input::read_on(fd, path, file.window, buffer) {
+    match input::read_on(command, fd, path, file.window, buffer) {
         Read::Failed => Progress {
             file,
             over: true,
@@ -50,7 +53,7 @@ fn take_turn(
             let after = turn.file;
             let mut written = true;
             if print {
-                written = write_text(text, turn.end);
+                written = write_text(command, text, turn.end);
             }
             if written {
                 return Progress {
@@ -70,7 +73,14 @@ fn take_turn(
 
 // Goes through the trace. The turns are counted down, from a number that no file uses up (`TextHoweverCut` in
 // `tracetext` says how many a trace takes; the rest of what it asks is required here).
-fn take_all(fd: i32, path: &[u8], print: bool, buffer: &mut [u8], text: &mut [u8]) -> Progress
+fn take_all(
+    command: Command,
+    fd: i32,
+    path: &[u8],
+    print: bool,
+    buffer: &mut [u8],
+    text: &mut [u8],
+) -> Progress
     requires { ⌜ longestRecord ≤ length (now buffer) ⌝ }
     requires { ⌜ longestText ≤ length (now text) ⌝ }
 {
@@ -83,27 +93,31 @@ fn take_all(fd: i32, path: &[u8], print: bool, buffer: &mut [u8], text: &mut [u8
     let mut turns = u64::MAX;
     while turns > 0 && !progress.over {
         let file = progress.file;
-        progress = take_turn(fd, path, file, print, buffer, text);
+        progress = take_turn(command, fd, path, file, print, buffer, text);
         turns -= 1;
     }
     progress
 }
 
-// Says why the trace has no text.
-fn say_refusal(run: TextRun, refusal: TextRefusal) {
+// Says in words why the trace has no text.
+fn say_why(command: Command, run: TextRun, refusal: TextRefusal) {
     let record = tracetext::refused_record(run);
-    say::refusal(tracetext::refusal_number(refusal) as u64);
     match refusal {
         TextRefusal::NoRefusal => {}
         TextRefusal::NoRecord => say::numbered(
+            command,
             b"record ",
             record,
-            b" is missing, cut short, or not one that a trace has there\n",
+            b" is missing, cut short, or not one that a trace has there; is this file a trace?\n",
         ),
         TextRefusal::AddressOutOfRange => {
-            say::words(b"the hub's address in record 1 has to lie in 08 to 77\n");
+            say::words(
+                command,
+                b"the hub's address in record 1 has to lie in 08 to 77\n",
+            );
         }
         TextRefusal::NoTextForm => say::numbered(
+            command,
             b"record ",
             record,
             b" is no register write: only the hub's address and register writes have a text\n",
@@ -111,66 +125,92 @@ fn say_refusal(run: TextRun, refusal: TextRefusal) {
     }
 }
 
-// Whether the whole trace was read and has a text; says why it has none.
-fn has_text(progress: Progress) -> bool {
+fn refuse(command: Command, run: TextRun, refusal: TextRefusal) -> Status {
+    if !say::refusal(tracetext::refusal_number(refusal) as u64) {
+        say::failed(command, b"cannot write the output");
+        return Status::Failed;
+    }
+    say_why(command, run, refusal);
+    Status::Refused
+}
+
+// Done where the whole trace was read and has a text; says why it has none.
+fn ending(command: Command, progress: Progress) -> Status {
     if progress.failed || !progress.over {
-        return false;
+        return Status::Failed;
     }
     let file = progress.file;
     let run = file.run;
     let refusal = tracetext::end_refusal(run);
     if tracetext::refusal_number(refusal) == 0 {
-        return true;
+        return Status::Done;
     }
-    say_refusal(run, refusal);
-    false
+    refuse(command, run, refusal)
+}
+
+// Reads the trace again from a place in the open file on, and prints its text.
+fn print(
+    command: Command,
+    fd: i32,
+    path: &[u8],
+    start: i64,
+    buffer: &mut [u8],
+    text: &mut [u8],
+) -> Status
+    requires { ⌜ longestRecord ≤ length (now buffer) ⌝ }
+    requires { ⌜ longestText ≤ length (now text) ⌝ }
+{
+    if libc::lseek(fd, start, libc::SEEK_SET) < 0 {
+        input::say_unread(command, path);
+        return Status::Failed;
+    }
+    let printed = take_all(command, fd, path, true, buffer, text);
+    ending(command, printed)
 }
 
 // Prints the text of the trace, from a place in the open file on, or says why there is none.
-fn convert(fd: i32, path: &[u8], start: i64) {
+fn convert(command: Command, fd: i32, path: &[u8], start: i64) -> Status {
     let mut buffer = io::large_buffer();
     let mut text = io::large_buffer();
-    let seen = take_all(fd, path, false, &mut buffer, &mut text);
-    if !has_text(seen) {
-        return;
+    let seen = take_all(command, fd, path, false, &mut buffer, &mut text);
+    match ending(command, seen) {
+        Status::Done => print(command, fd, path, start, &mut buffer, &mut text),
+        Status::Refused => Status::Refused,
+        Status::Failed => Status::Failed,
     }
-    if libc::lseek(fd, start, libc::SEEK_SET) < 0 {
-        input::say_unread(path);
-        return;
-    }
-    let printed = take_all(fd, path, true, &mut buffer, &mut text);
-    has_text(printed);
 }
 
 // A file that cannot be read twice is copied first.
-fn convert_file(fd: i32, path: &[u8]) {
+fn convert_file(command: Command, fd: i32, path: &[u8]) -> Status {
     let start = libc::lseek(fd, 0, libc::SEEK_CUR);
     if 0 <= start {
-        convert(fd, path, start);
-        return;
+        return convert(command, fd, path, start);
     }
     if os::errno() != libc::ESPIPE {
-        input::say_unread(path);
-        return;
+        input::say_unread(command, path);
+        return Status::Failed;
     }
-    let copy = spool::copy(fd, path);
-    if 0 <= copy {
-        convert(copy, path, 0);
-        libc::close(copy);
+    let copy = spool::copy(command, fd, path);
+    if copy < 0 {
+        return Status::Failed;
     }
+    let status = convert(command, copy, path, 0);
+    libc::close(copy);
+    status
 }
 
-pub(crate) fn run() {
+pub(crate) fn run(command: Command) -> Status {
     let mut path = io::buffer();
     let length = os::arg(2, &mut path);
     if os::errno() != 0 {
-        os::fail(b"convert: cannot open the trace");
-        return;
+        say::failed(command, b"cannot open the trace");
+        return Status::Failed;
     }
-    let fd = input::open(&path[..length]);
+    let fd = input::open(command, &path[..length]);
     if fd < 0 {
-        return;
+        return Status::Failed;
     }
-    convert_file(fd, &path[..length]);
+    let status = convert_file(command, fd, &path[..length]);
     libc::close(fd);
+    status
 }

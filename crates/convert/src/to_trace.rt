@@ -1,43 +1,26 @@
-// A script to a trace: convert trace ADDRESS SCRIPT OUT.
+// A script to a trace: convert trace ADDRESS SCRIPT OUT PART.
 ghost use Prim.Native.Nat.{_≤_, _<_};
 ghost use lib.ListN.{length};
 ghost use Rattle.script.specs.Grammar.{longestScriptLine};
 ghost use Rattle.scriptlines.specs.TakenLines.{recordRoom};
-use crate::input;
-use crate::input::Read;
 use crate::part;
-use crate::part::Part;
-use crate::say;
-use crate::show;
+use console::address;
+use console::address::Address;
+use console::input;
+use console::input::Read;
+use console::say;
+use console::say::Command;
+use console::status::Status;
 use script::records::HUB_RECORD;
 use scriptlines::ScriptFile;
 
-// The hub's address as it was given: two hex digits, or something else.
-enum Address {
-    NotTwoDigits,
-    Given(u8),
-}
-
-// How far the script is converted: the script, whether nothing is left to do, and whether a file failed.
+// How far the script is converted: the script, whether it has a call so far, whether nothing is left to do, and whether
+// a file failed.
 struct Progress {
     file: ScriptFile,
+    has_call: bool,
     over: bool,
     failed: bool,
-}
-
-fn read_address(word: &[u8]) -> Address {
-    if word.len() != 2 {
-        return Address::NotTwoDigits;
-    }
-    let high = calls::digit::value(word[0]);
-    let low = calls::digit::value(word[1]);
-    if 16 <= high {
-        return Address::NotTwoDigits;
-    }
-    if 16 <= low {
-        return Address::NotTwoDigits;
-    }
-    Address::Given(16 * high + low)
 }
 
 // Writes the hub record.
@@ -48,48 +31,56 @@ fn write_hub(fd: i32, address: u8) -> bool {
 }
 
 // Writes the first bytes of the records, or says that they cannot be written.
-fn write_records(fd: i32, out: &[u8], records: &[u8], end: usize) -> bool
+fn write_records(command: Command, fd: i32, out: &[u8], records: &[u8], end: usize) -> bool
     requires { ⌜ end ≤ length (now records) ⌝ }
 {
     if io::write_all(fd, &records[0..end]) {
         return true;
     }
-    part::say_unwritten(out);
+    part::say_unwritten(command, out);
     false
 }
 
-// Reads, takes the lines that were read, and writes their records.
+// Takes the lines that were read, and writes their records.
+fn take_lines(
+    command: Command,
+    to: i32,
+    out: &[u8],
+    progress: Progress,
+    got: usize,
+    buffer: &mut [u8],
+    records: &mut [u8],
+) -> Progress {
+    let turn = scriptlines::turn(progress.file, got, buffer, records);
+    let written = write_records(command, to, out, records, turn.end);
+    Progress {
+        file: turn.file,
+        has_call: progress.has_call || turn.end != 0,
+        over: turn.done || !written,
+        failed: !written,
+    }
+}
+
+// Reads, and takes what was read.
 fn take_turn(
+    command: Command,
     from: i32,
     script: &[u8],
     to: i32,
     out: &[u8],
-    file: ScriptFile,
+    progress: Progress,
     buffer: &mut [u8],
     records: &mut [u8],
 ) -> Progress {
-    match input::read_on(from, script, file.window, buffer) {
+    let file = progress.file;
+    match input::read_on(command, from, script, file.window, buffer) {
         Read::Failed => Progress {
             file,
+            has_call: false,
             over: true,
             failed: true,
         },
-        Read::Got(got) => {
-            let turn = scriptlines::turn(file, got, buffer, records);
-            let after = turn.file;
-            if write_records(to, out, records, turn.end) {
-                return Progress {
-                    file: after,
-                    over: turn.done,
-                    failed: false,
-                };
-            }
-            Progress {
-                file: after,
-                over: true,
-                failed: true,
-            }
-        }
+        Read::Got(got) => take_lines(command, to, out, progress, got, buffer, records),
     }
 }
 
@@ -97,6 +88,7 @@ fn take_turn(
 // counted down, from a number that no file uses up (`ScriptHoweverCut` in `scriptlines` says how many a script takes;
 // the rest of what it asks is required here).
 fn take_all(
+    command: Command,
     from: i32,
     script: &[u8],
     to: i32,
@@ -110,111 +102,173 @@ fn take_all(
     let file = scriptlines::new_file();
     let mut progress = Progress {
         file,
+        has_call: false,
         over: false,
         failed: false,
     };
     let mut turns = u64::MAX;
     while turns > 0 && !progress.over {
-        let file = progress.file;
-        progress = take_turn(from, script, to, out, file, buffer, records);
+        progress = take_turn(command, from, script, to, out, progress, buffer, records);
         turns -= 1;
     }
     progress
 }
 
-// Keeps the trace where the script was taken; otherwise says which line is refused.
-fn finish(progress: Progress, part: Part, out: &[u8], name: &[u8], buffer: &[u8]) {
-    let file = progress.file;
+// The script is refused: says so by its first refused line, and names all of them.
+fn refuse(
+    command: Command,
+    from: i32,
+    script: &[u8],
+    file: ScriptFile,
+    buffer: &mut [u8],
+    records: &mut [u8],
+) -> Status {
     let run = file.run;
-    let window = file.window;
     let refusal = run.refusal;
+    let line = scriptlines::refused_line(run);
     let number = scriptlines::refusal_number(refusal);
-    if progress.failed || !progress.over {
-        part::discard(part, name);
-        return;
+    if !say::refusal_at(line, number as u64) {
+        say::failed(command, b"cannot write the output");
+        return Status::Failed;
     }
-    if number == 0 {
-        part::keep(part, out, name);
-        return;
-    }
-    part::discard(part, name);
-    show::refused(buffer, window.held, scriptlines::refused_line(run), number);
+    refusedlines::name_all(command, from, script, file, buffer, records);
+    Status::Refused
 }
 
-fn convert(address: u8, from: i32, script: &[u8], part: Part, out: &[u8], name: &[u8]) {
-    if !write_hub(part.fd, address) {
-        part::say_unwritten(out);
-        part::discard(part, name);
-        return;
+// Whether the script was read to its end and taken, refused, or not read.
+fn ending(progress: Progress) -> Status {
+    if progress.failed || !progress.over {
+        return Status::Failed;
+    }
+    let file = progress.file;
+    let run = file.run;
+    let refusal = run.refusal;
+    if scriptlines::refusal_number(refusal) == 0 {
+        return Status::Done;
+    }
+    Status::Refused
+}
+
+// The trace is kept; says so where the script has no call.
+fn keep(command: Command, progress: Progress, to: i32, out: &[u8], name: &[u8]) -> Status {
+    let status = part::keep(command, to, out, name);
+    if !progress.has_call {
+        say::words(command, b"note: the script has no register write\n");
+    }
+    status
+}
+
+// Converts the script into the part; keeps it where the script was taken.
+fn convert(
+    command: Command,
+    address: u8,
+    from: i32,
+    script: &[u8],
+    to: i32,
+    out: &[u8],
+    name: &[u8],
+) -> Status {
+    if !write_hub(to, address) {
+        part::say_unwritten(command, out);
+        part::discard(to, name);
+        return Status::Failed;
     }
     let mut buffer = io::large_buffer();
     let mut records = io::large_buffer();
-    let progress = take_all(from, script, part.fd, out, &mut buffer, &mut records);
-    finish(progress, part, out, name, &buffer);
+    let progress = take_all(command, from, script, to, out, &mut buffer, &mut records);
+    match ending(progress) {
+        Status::Done => keep(command, progress, to, out, name),
+        Status::Failed => {
+            part::discard(to, name);
+            Status::Failed
+        }
+        Status::Refused => {
+            part::discard(to, name);
+            refuse(
+                command,
+                from,
+                script,
+                progress.file,
+                &mut buffer,
+                &mut records,
+            )
+        }
+    }
 }
 
 // Converts the open script.
-fn convert_file(address: u8, from: i32, script: &[u8], out: &[u8]) {
-    let mut space = io::buffer();
-    let length = part::put_name(out, &mut space);
-    if space.len() < length {
-        part::say_unwritten(out);
-        return;
+fn convert_file(
+    command: Command,
+    address: u8,
+    from: i32,
+    script: &[u8],
+    out: &[u8],
+    name: &[u8],
+) -> Status {
+    let to = part::begin(command, out, name);
+    if to < 0 {
+        return Status::Failed;
     }
-    let name = &space[0..length];
-    let part = part::begin(out, name);
-    if part.fd < 0 {
-        return;
-    }
-    convert(address, from, script, part, out, name);
+    convert(command, address, from, script, to, out, name)
 }
 
 // Converts the script where the address is one that a hub may have.
-fn convert_script(address: u8, script: &[u8], out: &[u8]) {
+fn convert_script(command: Command, address: u8, script: &[u8], out: &[u8], name: &[u8]) -> Status {
     let number = scriptlines::address_refusal(address);
     if number != 0 {
-        say::refusal(number as u64);
-        say::words(b"the hub's address has to lie in 08 to 77\n");
-        return;
+        return address::refuse(command, address, number);
     }
-    let from = input::open(script);
+    let from = input::open(command, script);
     if from < 0 {
-        return;
+        return Status::Failed;
     }
-    convert_file(address, from, script, out);
+    let status = convert_file(command, address, from, script, out, name);
     libc::close(from);
+    status
 }
 
 // Converts the script into the trace, the hub's address given as a word.
-fn convert_words(word: &[u8], script: &[u8], out: &[u8]) {
-    match read_address(word) {
+fn convert_words(command: Command, word: &[u8], script: &[u8], out: &[u8], name: &[u8]) -> Status {
+    match address::of_word(word) {
         Address::NotTwoDigits => {
-            say::words(
-                b"give the hub's address as two hex digits, as in: convert trace 3D FILE OUT\n",
-            );
+            address::say_form(command);
+            Status::Failed
         }
-        Address::Given(address) => convert_script(address, script, out),
+        Address::Given(given) => convert_script(command, given, script, out, name),
     }
 }
 
-pub(crate) fn run() {
+// Takes the names of OUT and of PART.
+fn convert_named(command: Command, word: &[u8], script: &[u8]) -> Status {
+    let mut out = io::buffer();
+    let out_length = os::arg(4, &mut out);
+    if os::errno() != 0 {
+        say::failed(command, b"cannot write the trace");
+        return Status::Failed;
+    }
+    let mut name = io::buffer();
+    let name_length = os::arg(5, &mut name);
+    if os::errno() != 0 {
+        say::failed(command, b"cannot write the trace");
+        return Status::Failed;
+    }
+    convert_words(
+        command,
+        word,
+        script,
+        &out[..out_length],
+        &name[..name_length],
+    )
+}
+
+pub(crate) fn run(command: Command) -> Status {
     let mut word = io::buffer();
     let word_length = os::arg(2, &mut word);
     let mut script = io::buffer();
     let script_length = os::arg(3, &mut script);
     if os::errno() != 0 {
-        os::fail(b"convert: cannot open the script");
-        return;
+        say::failed(command, b"cannot open the script");
+        return Status::Failed;
     }
-    let mut out = io::buffer();
-    let out_length = os::arg(4, &mut out);
-    if os::errno() != 0 {
-        os::fail(b"convert: cannot write the trace");
-        return;
-    }
-    convert_words(
-        &word[..word_length],
-        &script[..script_length],
-        &out[..out_length],
-    );
+    convert_named(command, &word[..word_length], &script[..script_length])
 }

@@ -1,28 +1,50 @@
-// The program `player`: plays the trace file that its argument names, and prints a line for each record and the counts.
+// The program `player`: plays a trace file, and prints a line for each record and the counts. The front door runs it
+// for the commands play and run.
 mod run;
 
+use console::input;
+use console::say;
+use console::say::Command;
+use console::status::Status;
 use libc::STDERR_FILENO;
 
-fn main() {
-    if os::arg_count() != 2 {
-        io::write_all(
-            STDERR_FILENO,
-            b"player: give the path of one trace file, as in: player FILE\n",
-        );
-        return;
-    }
+// Plays the file that the second argument names.
+fn play(command: Command) -> Status {
     let mut path = io::buffer();
-    let length = os::arg(1, &mut path);
+    let length = os::arg(2, &mut path);
     if os::errno() != 0 {
-        os::fail(b"player: cannot open the trace");
-        return;
+        say::failed(command, b"cannot open the trace");
+        return Status::Failed;
     }
-    let fd = os::open_read(&path[..length]);
+    let fd = input::open(command, &path[..length]);
     if fd < 0 {
-        io::write_all(STDERR_FILENO, b"player: cannot open the trace: ");
-        os::fail(&path[..length]);
-        return;
+        return Status::Failed;
     }
-    run::play_file(fd, &path[..length]);
+    let status = run::play_file(command, fd, &path[..length]);
     libc::close(fd);
+    status
+}
+
+// The program's work, by the command that was typed.
+fn play_as(word: &[u8], words: usize) -> Status {
+    if words == 3 {
+        if check::same(word, b"play") {
+            return play(Command::Play);
+        }
+        if check::same(word, b"run") {
+            return play(Command::Run);
+        }
+    }
+    io::write_all(
+        STDERR_FILENO,
+        b"player: ./loopcinder runs this program, as: player play FILE\n",
+    );
+    Status::Failed
+}
+
+fn main() {
+    let mut word = io::buffer();
+    let length = os::arg(1, &mut word);
+    let status = play_as(&word[..length], os::arg_count());
+    console::status::tell(status);
 }

@@ -2,7 +2,8 @@
 //! output, and what it means on standard error.
 
 use super::{cannot_print, cannot_write, Failure};
-use independent::model::convert::{to_text, to_trace, Refused};
+use independent::compare::scripts::named;
+use independent::model::convert::{refused_lines, to_text, to_trace, Refused};
 use std::ffi::OsString;
 use std::fs;
 use std::io::{self, Read, Write};
@@ -12,15 +13,23 @@ pub fn trace(address: &OsString, script: &Path, out: &Path) -> Result<(), Failur
     let address = hex_byte(&address.to_string_lossy())?;
     let text = read(script)?;
     match to_trace(address, &text) {
-        Ok(trace) => fs::write(out, trace).map_err(|error| cannot_write(out, error)),
-        Err(refused) => print_refusal(script, refused),
+        Ok(trace) => {
+            if trace.len() == 5 {
+                let _ = writeln!(io::stderr(), "note: there is no register write");
+            }
+            fs::write(out, trace).map_err(|error| cannot_write(out, error))
+        }
+        Err(refused) if refused.line.is_some() => {
+            print_refusal(&named(&refused_lines(&text)), refused)
+        }
+        Err(refused) => print_refusal(&["the address is refused".into()], refused),
     }
 }
 
 pub fn text(trace: &Path) -> Result<(), Failure> {
     match to_text(&read(trace)?) {
         Ok(text) => io::stdout().write_all(&text).map_err(cannot_print),
-        Err(refused) => print_refusal(trace, refused),
+        Err(refused) => print_refusal(&["the trace is refused".into()], refused),
     }
 }
 
@@ -45,7 +54,9 @@ fn read(path: &Path) -> Result<Vec<u8>, Failure> {
 }
 
 /// Exit status 0, as the proved program has no other.
-fn print_refusal(path: &Path, refused: Refused) -> Result<(), Failure> {
-    let _ = writeln!(io::stderr(), "{} is refused", path.display());
+fn print_refusal(words: &[String], refused: Refused) -> Result<(), Failure> {
+    for words in words {
+        let _ = writeln!(io::stderr(), "{}", words.trim_end_matches('\n'));
+    }
     writeln!(io::stdout(), "{refused}").map_err(cannot_print)
 }

@@ -16,8 +16,20 @@ pub fn run(path: &Path) -> Result<(), Failure> {
     let mut output = BufWriter::with_capacity(1 << 16, std::io::stdout().lock());
     let played = play(input, &mut output, &mut Unwatched);
     let flushed = output.flush().map_err(PlayError::Output);
-    match played.and(flushed) {
-        Ok(()) => Ok(()),
+    match played.and_then(|totals| flushed.map(|()| totals)) {
+        Ok(totals) => {
+            if totals.records == 0 {
+                let _ = writeln!(std::io::stderr(), "note: the trace is empty");
+            }
+            if totals.ended {
+                let _ = writeln!(
+                    std::io::stderr(),
+                    "the run ended at record {}",
+                    totals.records
+                );
+            }
+            Ok(())
+        }
         Err(PlayError::Input(error)) => Err(cannot_read(error)),
         Err(PlayError::Output(error)) if error.kind() == ErrorKind::BrokenPipe => {
             Err(Failure::Work(String::new())) // whoever reads the output has seen enough

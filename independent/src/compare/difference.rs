@@ -39,14 +39,16 @@ pub fn earlier(first: Option<Difference>, second: Option<Difference>) -> Option<
 }
 
 /// What a run must have on its standard error.
-#[derive(Clone, Copy, Debug, PartialEq, Eq)]
+#[derive(Clone, Debug, PartialEq, Eq)]
 pub enum ExpectedStderr {
     Nothing,
     OneLine,
+    /// A line for each, which begins so.
+    Lines(Vec<String>),
 }
 
 /// What is wrong with a run, if anything.
-pub fn what_is_wrong(run: &Run, stdout: &[u8], stderr: ExpectedStderr) -> Option<String> {
+pub fn what_is_wrong(run: &Run, stdout: &[u8], stderr: &ExpectedStderr) -> Option<String> {
     let status = match run.ending {
         Ending::TookTooLong => return Some("the program did not come to an end".into()),
         Ending::PrintedTooMuch => return Some("the program did not stop printing".into()),
@@ -59,7 +61,7 @@ pub fn what_is_wrong(run: &Run, stdout: &[u8], stderr: ExpectedStderr) -> Option
     wrong_stderr(&run.stderr, stderr).or_else(|| (!status.success()).then(failed))
 }
 
-fn wrong_stderr(text: &[u8], expected: ExpectedStderr) -> Option<String> {
+fn wrong_stderr(text: &[u8], expected: &ExpectedStderr) -> Option<String> {
     let mut lines = text.split_inclusive(|&byte| byte == b'\n');
     let first = lines.next();
     let ends = first.is_some_and(|line| line.ends_with(b"\n"));
@@ -67,10 +69,29 @@ fn wrong_stderr(text: &[u8], expected: ExpectedStderr) -> Option<String> {
     let wrong = match expected {
         ExpectedStderr::Nothing if !text.is_empty() => "is not empty",
         ExpectedStderr::OneLine if !one_line => "is not one line",
+        ExpectedStderr::Lines(starts) => return wrong_lines(text, starts),
         _ => return None,
     };
     let first = first.map(|line| line.strip_suffix(b"\n").unwrap_or(line));
     Some(format!("its standard error {wrong}: {}", shown(first)))
+}
+
+/// The first line that does not begin as it should, is missing, or is one too many.
+fn wrong_lines(text: &[u8], starts: &[String]) -> Option<String> {
+    let mut lines = text.split_inclusive(|&byte| byte == b'\n');
+    for start in starts {
+        let line = lines.next();
+        let begins = |line: &[u8]| line.starts_with(start.as_bytes()) && line.ends_with(b"\n");
+        if !line.is_some_and(begins) {
+            let line = shown(line);
+            return Some(format!(
+                "a line of its standard error should begin with \"{start}\" and is {line}"
+            ));
+        }
+    }
+    let more = lines.next()?;
+    let more = shown(Some(more));
+    Some(format!("its standard error has a line too many: {more}"))
 }
 
 fn first_differing_line(expected: &[u8], got: &[u8]) -> String {

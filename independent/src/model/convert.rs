@@ -53,6 +53,13 @@ pub fn pieces(text: &[u8]) -> impl Iterator<Item = &[u8]> {
     text.split_inclusive(|&byte| byte == b'\n')
 }
 
+/// The numbers of all lines that are refused, each by itself.
+pub fn refused_lines(text: &[u8]) -> Vec<u64> {
+    let numbered = (1..).zip(pieces(text));
+    let refused = numbered.filter(|(_, piece)| read_piece(piece).is_err());
+    refused.map(|(number, _)| number).collect()
+}
+
 /// A piece without a line feed is no line, whatever it holds.
 pub fn read_piece(piece: &[u8]) -> Result<Option<Call>, Refusal> {
     match piece.strip_suffix(b"\n") {

@@ -25,6 +25,8 @@ impl Watch for Unwatched {}
 pub struct Totals {
     pub records: u64,
     pub refused: u64,
+    /// Whether the last record ended the run.
+    pub ended: bool,
 }
 
 #[derive(Debug)]
@@ -143,6 +145,7 @@ pub fn play<R: Read, W: Write, T: Watch>(
             .write_all(line.as_bytes())
             .map_err(PlayError::Output)?;
         if ends_the_run(&answer, totals.records) {
+            totals.ended = true;
             break;
         }
     }

@@ -4,7 +4,6 @@ use super::table::row;
 use crate::compare::run::with_context;
 use crate::generate::rng::Rng;
 use crate::generate::traces::large;
-use std::ffi::OsStr;
 use std::io;
 use std::path::{Path, PathBuf};
 use std::process::{Command, Stdio};
@@ -35,13 +34,13 @@ impl TraceFile {
 /// A program with its arguments up to the trace file.
 struct PlayerProgram<'a> {
     program: &'a Path,
-    command: Option<&'static str>,
+    command: &'static str,
 }
 
 impl PlayerProgram<'_> {
     fn command(&self, trace: &TraceFile) -> Command {
         let mut command = Command::new(self.program);
-        command.args(self.command.map(OsStr::new));
+        command.arg(self.command);
         command.arg(&trace.0).stdin(Stdio::null());
         command
     }
@@ -75,11 +74,11 @@ pub fn report(player: &Path) -> io::Result<String> {
     let own = std::env::current_exe()?;
     let proved = PlayerProgram {
         program: player,
-        command: None,
+        command: "play",
     };
     let own = PlayerProgram {
         program: &own,
-        command: Some("play"),
+        command: "play",
     };
     if proved.text(&trace)? != own.text(&trace)? {
         let text = "the players print different texts, so they are not timed: run compare";

@@ -18,7 +18,7 @@ use std::path::Path;
 use tally::Tally;
 
 pub static PLAYERS: Comparison = Comparison {
-    program: "a program that takes a trace file as its only argument",
+    program: "a program that takes the word play and a trace file",
     cases: "traces",
     points: POINTS,
     refusals: "every refusal a trace can reach (1 to 7, 9, 13)",
@@ -32,7 +32,12 @@ fn compare_one(settings: &Settings, folder: &Path, number: u64) -> io::Result<Fi
     let mut coverage = Coverage::new(POINTS);
     let (expected, totals) = play(&trace, &mut coverage);
     let run = run_player(settings, folder, &trace, expected.len() as u64)?;
-    let wrong = what_is_wrong(&run, &expected, ExpectedStderr::Nothing);
+    let words = if totals.ended || totals.records == 0 {
+        ExpectedStderr::OneLine
+    } else {
+        ExpectedStderr::Nothing
+    };
+    let wrong = what_is_wrong(&run, &expected, &words);
     let difference = wrong.map(|what| Difference {
         noun: "trace",
         number,
@@ -71,5 +76,5 @@ fn run_player(settings: &Settings, folder: &Path, trace: &[u8], expected: u64) -
         role: "player",
         time_limit: settings.time_limit,
     };
-    player.run(&[file.as_os_str()], None, expected)
+    player.run(&["play".as_ref(), file.as_os_str()], None, expected)
 }

@@ -41,7 +41,7 @@ impl Converter<'_> {
         let file = self.read_out()?;
         let right_file = outcome.file(job, way.old.as_deref());
         let left_behind = self.left_behind()?;
-        let wrong = what_is_wrong(&run, &stdout, outcome.stderr())
+        let wrong = what_is_wrong(&run, &stdout, &outcome.stderr(job))
             .or_else(|| wrong_file(right_file, file.as_deref()))
             .or(left_behind);
         Ok(wrong.map(|what| {
@@ -84,7 +84,14 @@ impl Converter<'_> {
             Job::Text { .. } => call(&["text".as_ref(), given]),
             Job::Trace { address, .. } => {
                 let address = shown_address(*address, way.capitals);
-                call(&["trace".as_ref(), address.as_ref(), given, out])
+                let part = self.folder.join("part");
+                call(&[
+                    "trace".as_ref(),
+                    address.as_ref(),
+                    given,
+                    out,
+                    part.as_ref(),
+                ])
             }
         }
     }
@@ -144,7 +151,7 @@ fn input_files(job: &Job, way: &Way) -> Files {
         Job::Text { trace } => (format!("convert text {}\n", from("TRACE")), "trace", trace),
         Job::Trace { address, text } => {
             let address = shown_address(*address, way.capitals);
-            let call = format!("convert trace {address} {} OUT\n", from("SCRIPT"));
+            let call = format!("convert trace {address} {} OUT PART\n", from("SCRIPT"));
             (call, "script", text)
         }
     };

@@ -17,6 +17,7 @@ use super::run::Program;
 use crate::generate::scripts::{self, Case, Job};
 use crate::model::player::end_state;
 use converter::{Converter, Fault};
+pub use outcome::named;
 use outcome::Outcome;
 use points::POINTS;
 use std::io;

@@ -2,7 +2,10 @@
 
 use crate::compare::difference::ExpectedStderr;
 use crate::generate::scripts::Job;
-use crate::model::convert::{to_text, to_trace, Refused};
+use crate::model::convert::{refused_lines, to_text, to_trace, Refused};
+
+/// So many refused lines are named; those behind them are counted.
+const MOST_NAMED: usize = 20;
 
 #[derive(Clone, Debug, PartialEq, Eq)]
 pub enum Outcome {
@@ -35,10 +38,17 @@ impl Outcome {
         }
     }
 
-    pub fn stderr(&self) -> ExpectedStderr {
-        match self {
-            Outcome::Taken(_) => ExpectedStderr::Nothing,
-            Outcome::Refused(_) => ExpectedStderr::OneLine,
+    pub fn stderr(&self, job: &Job) -> ExpectedStderr {
+        match (self, job) {
+            // A note that there is no register write, only the hub record.
+            (Outcome::Taken(trace), Job::Trace { .. }) if trace.len() == 5 => {
+                ExpectedStderr::OneLine
+            }
+            (Outcome::Taken(_), _) => ExpectedStderr::Nothing,
+            (Outcome::Refused(Refused { line: Some(_), .. }), Job::Trace { text, .. }) => {
+                ExpectedStderr::Lines(named(&refused_lines(text)))
+            }
+            (Outcome::Refused(_), _) => ExpectedStderr::OneLine,
         }
     }
 
@@ -49,4 +59,18 @@ impl Outcome {
             _ => old,
         }
     }
+}
+
+/// How the words for refused lines begin.
+pub fn named(lines: &[u64]) -> Vec<String> {
+    let (first, behind) = lines.split_at(lines.len().min(MOST_NAMED));
+    let name = |line| format!("loopcinder trace: line {line} ");
+    let mut words: Vec<String> = first.iter().map(name).collect();
+    if !behind.is_empty() {
+        let count = behind.len();
+        words.push(format!(
+            "loopcinder trace: refused lines besides these: {count}\n"
+        ));
+    }
+    words
 }

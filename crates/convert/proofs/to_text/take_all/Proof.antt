@@ -7,10 +7,10 @@ use Rattle.convert.proofs.to_text.take_all.Statement.{statement}
 use Rattle.convert.proofs.to_text.take_all.Tie as tie
 
 abbrev Inv-loop : tie.InvT-loop
-Inv-loop fd path print buffer₀ text₀ progress₀ turns₀ buffer text progress turns = (length buffer ≡ length buffer₀) × (length text ≡ length text₀)
+Inv-loop command fd path print buffer₀ text₀ progress₀ turns₀ buffer text progress turns = (length buffer ≡ length buffer₀) × (length text ≡ length text₀)
 
 abbrev μ-loop : tie.MeasureT-loop
-μ-loop fd path print buffer₀ text₀ progress₀ turns₀ buffer text progress turns = turns
+μ-loop command fd path print buffer₀ text₀ progress₀ turns₀ buffer text progress turns = turns
 
 new-file-requires : tie.Need-new-file-requires Inv-loop μ-loop
 new-file-requires c κs = search needs

@@ -7,10 +7,10 @@ use Rattle.convert.proofs.to_trace.take_all.Statement.{statement}
 use Rattle.convert.proofs.to_trace.take_all.Tie as tie
 
 abbrev Inv-loop : tie.InvT-loop
-Inv-loop from script to out buffer₀ records₀ progress₀ turns₀ buffer records progress turns = (length buffer ≡ length buffer₀) × (length records ≡ length records₀)
+Inv-loop command from script to out buffer₀ records₀ progress₀ turns₀ buffer records progress turns = (length buffer ≡ length buffer₀) × (length records ≡ length records₀)
 
 abbrev μ-loop : tie.MeasureT-loop
-μ-loop from script to out buffer₀ records₀ progress₀ turns₀ buffer records progress turns = turns
+μ-loop command from script to out buffer₀ records₀ progress₀ turns₀ buffer records progress turns = turns
 
 new-file-requires : tie.Need-new-file-requires Inv-loop μ-loop
 new-file-requires c κs = search needs

@@ -1,24 +1,22 @@
--- `player::run::play_all` meets its contract. The loop's invariant: the lent buffers keep their lengths.
+-- `player::run::play_all` is safe and ends. The loop's invariant: the lent buffers keep their lengths.
 -- Assumes nothing.
-use mathlib.Core.Path.{_≡_, refl, _∙_}
-use borrow.Author.Needs.{needs}
+use mathlib.Core.Path.{_≡_}
 use lib.ListN.{length}
+use borrow.Author.Needs.{needs}
 use Rattle.player.proofs.run.play_all.Statement.{statement}
 use Rattle.player.proofs.run.play_all.Tie as tie
-use Rattle.turns.proofs.new_run.Reads as new-run-reads
 
 abbrev Inv-loop : tie.InvT-loop
-Inv-loop fd path buffer₀ packets₀ out₀ run₀ over₀ turns₀ buffer packets out run over turns =
-    (length buffer ≡ length buffer₀) × (length packets ≡ length packets₀) × (length out ≡ length out₀)
+Inv-loop command fd path buffer₀ packets₀ out₀ step₀ turns₀ buffer packets out step turns = (length buffer ≡ length buffer₀) × (length packets ≡ length packets₀) × (length out ≡ length out₀)
 
 abbrev μ-loop : tie.MeasureT-loop
-μ-loop fd path buffer₀ packets₀ out₀ run₀ over₀ turns₀ buffer packets out run over turns = turns
+μ-loop command fd path buffer₀ packets₀ out₀ step₀ turns₀ buffer packets out step turns = turns
 
 new-run-requires : tie.Need-new-run-requires Inv-loop μ-loop
 new-run-requires c κs = search needs
 
 loop-holds : tie.Need-loop-holds Inv-loop μ-loop
-loop-holds c = (refl, refl, refl)
+loop-holds c = search needs
 
 take-turn-requires : tie.Need-take-turn-requires Inv-loop μ-loop
 take-turn-requires c κs = search needs
@@ -30,31 +28,28 @@ loop-less : tie.Need-loop-less Inv-loop μ-loop
 loop-less c = search needs
 
 loop-again : tie.Need-loop-again Inv-loop μ-loop
-loop-again c =
-    let turned = c .before .before .before .before .before .before .before in
-    let l = turned .before .before .before .before .before .before .loop in
-    (turned .take-turn .kept .1 .1 .1 .0 ∙ l .inv .0, turned .take-turn .kept .1 .1 .1 .1 .0 ∙ l .inv .1, turned .take-turn .kept .1 .1 .1 .1 .1 .0 ∙ l .inv .2)
+loop-again c = search needs
 
 same-length : tie.Need-same-length Inv-loop μ-loop
-same-length c = c .before .before .loop .inv .0
+same-length c = search needs
 
 same-length-2 : tie.Need-same-length-2 Inv-loop μ-loop
-same-length-2 c = c .before .before .loop .inv .1
+same-length-2 c = search needs
 
 same-length-3 : tie.Need-same-length-3 Inv-loop μ-loop
-same-length-3 c = c .before .before .loop .inv .2
+same-length-3 c = search needs
 
 returns : tie.Need-returns Inv-loop μ-loop
 returns c = search needs
 
 same-length-4 : tie.Need-same-length-4 Inv-loop μ-loop
-same-length-4 c = c .before .loop .inv .0
+same-length-4 c = search needs
 
 same-length-5 : tie.Need-same-length-5 Inv-loop μ-loop
-same-length-5 c = c .before .loop .inv .1
+same-length-5 c = search needs
 
 same-length-6 : tie.Need-same-length-6 Inv-loop μ-loop
-same-length-6 c = c .before .loop .inv .2
+same-length-6 c = search needs
 
 returns-2 : tie.Need-returns-2 Inv-loop μ-loop
 returns-2 c = search needs

@@ -28,6 +28,12 @@ play-all-requires c κs =
     let made = c .before .before .before in
     (omega (arith, made .before .before .large-buffer .ensures), (made .packet-buffer .ensures .0, omega (arith, made .before .large-buffer2 .ensures)))
 
+array-read-ending : tie.Need-array-read-ending
+array-read-ending c = search needs
+
+ending-requires : tie.Need-ending-requires
+ending-requires c κs = search needs
+
 returns : tie.Need-returns
 returns c = search needs
 
@@ -42,4 +48,6 @@ play-file-spec =
     slice-aggregate-play-all-2
     slice-aggregate-play-all-3
     play-all-requires
+    array-read-ending
+    ending-requires
     returns)

@@ -1,15 +1,15 @@
--- `convert::show::line_end` meets its contract: the loop goes over the bytes once.
+-- `refusedlines::cause::place_of` is safe and ends: the loop goes over the bytes once.
 -- Assumes nothing.
 use Prim.Native.Nat.{_-_}
 use borrow.Author.Needs.{needs}
-use Rattle.convert.proofs.show.line_end.Statement.{statement}
-use Rattle.convert.proofs.show.line_end.Tie as tie
+use Rattle.refusedlines.proofs.cause.place_of.Statement.{statement}
+use Rattle.refusedlines.proofs.cause.place_of.Tie as tie
 
 abbrev Inv-loop : tie.InvT-loop
-Inv-loop text place₀ place-end place = Unit {0}
+Inv-loop text byte place₀ place-end place = Unit {0}
 
 abbrev μ-loop : tie.MeasureT-loop
-μ-loop text place₀ place-end place = place-end - place
+μ-loop text byte place₀ place-end place = place-end - place
 
 loop-holds : tie.Need-loop-holds Inv-loop μ-loop
 loop-holds c = search needs
@@ -32,8 +32,8 @@ loop-again c = search needs
 returns-2 : tie.Need-returns-2 Inv-loop μ-loop
 returns-2 c = search needs
 
-pub line-end-spec : {M : Type 1} → statement M
-line-end-spec =
+pub place-of-spec : {M : Type 1} → statement M
+place-of-spec =
     tie.close
     (tie.spec
     Inv-loop

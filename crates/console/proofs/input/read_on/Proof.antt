@@ -1,4 +1,4 @@
--- `convert::input::read_on` meets its contract: where bytes are wanted they have room.
+-- `console::input::read_on` meets its contract: where bytes are wanted they have room.
 -- Assumes nothing.
 use mathlib.Core.Path.{sym, _∙_}
 use mathlib.Core.Bool.{not}
@@ -8,8 +8,8 @@ use lib.Dec.{ltb}
 use lib.ListN.{length}
 use Rattle.laws.proofs.Bools.{both}
 use borrow.Author.Needs.{needs}
-use Rattle.convert.proofs.input.read_on.Statement.{statement}
-use Rattle.convert.proofs.input.read_on.Tie as tie
+use Rattle.console.proofs.input.read_on.Statement.{statement}
+use Rattle.console.proofs.input.read_on.Tie as tie
 
 wants-bytes-requires : tie.Need-wants-bytes-requires
 wants-bytes-requires c κs = search needs

@@ -1,5 +1,7 @@
 // A file that can be read once only, such as a pipe, copied into a temporary one that nobody else sees.
 use crate::input;
+use crate::say;
+use crate::say::Command;
 
 // How far the file is copied: whether its end was reached, and whether a file failed.
 struct Copied {
@@ -7,16 +9,16 @@ struct Copied {
     failed: bool,
 }
 
-fn say_unspooled() {
-    os::fail(b"convert: cannot write a temporary file in /tmp");
+fn say_unspooled(command: Command) {
+    say::failed(command, b"cannot write a temporary file in /tmp");
 }
 
 // Makes the temporary file; it goes when it is closed.
-fn make() -> i32 {
+fn make(command: Command) -> i32 {
     let mut name = *b"/tmp/loopcinder.XXXXXX";
     let fd = os::create_temp(&mut name);
     if fd < 0 {
-        say_unspooled();
+        say_unspooled(command);
         return fd;
     }
     os::unlink(&name);
@@ -24,10 +26,10 @@ fn make() -> i32 {
 }
 
 // Copies the next bytes.
-fn copy_bytes(from: i32, path: &[u8], to: i32, buffer: &mut [u8]) -> Copied {
+fn copy_bytes(command: Command, from: i32, path: &[u8], to: i32, buffer: &mut [u8]) -> Copied {
     let got = libc::read(from, buffer);
     if got < 0 {
-        input::say_unread(path);
+        input::say_unread(command, path);
         return Copied {
             over: true,
             failed: true,
@@ -35,7 +37,7 @@ fn copy_bytes(from: i32, path: &[u8], to: i32, buffer: &mut [u8]) -> Copied {
     }
     let count = io::count(got, buffer);
     if !io::write_all(to, &buffer[0..count]) {
-        say_unspooled();
+        say_unspooled(command);
         return Copied {
             over: true,
             failed: true,
@@ -48,32 +50,32 @@ fn copy_bytes(from: i32, path: &[u8], to: i32, buffer: &mut [u8]) -> Copied {
 }
 
 // Copies to the end; the turns are counted down, from a number that no file uses up.
-fn copy_all(from: i32, path: &[u8], to: i32, buffer: &mut [u8]) -> bool {
+fn copy_all(command: Command, from: i32, path: &[u8], to: i32, buffer: &mut [u8]) -> bool {
     let mut copied = Copied {
         over: false,
         failed: false,
     };
     let mut turns = u64::MAX;
     while turns > 0 && !copied.over {
-        copied = copy_bytes(from, path, to, buffer);
+        copied = copy_bytes(command, from, path, to, buffer);
         turns -= 1;
     }
     !copied.failed
 }
 
 // The copy, at its start; below 0 where there is none, which is said.
-pub(crate) fn copy(from: i32, path: &[u8]) -> i32 {
-    let to = make();
+pub fn copy(command: Command, from: i32, path: &[u8]) -> i32 {
+    let to = make(command);
     if to < 0 {
         return to;
     }
     let mut buffer = io::large_buffer();
-    if !copy_all(from, path, to, &mut buffer) {
+    if !copy_all(command, from, path, to, &mut buffer) {
         libc::close(to);
         return -1;
     }
     if libc::lseek(to, 0, libc::SEEK_SET) < 0 {
-        say_unspooled();
+        say_unspooled(command);
         libc::close(to);
         return -1;
     }

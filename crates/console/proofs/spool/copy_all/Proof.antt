@@ -1,16 +1,16 @@
--- `convert::spool::copy_all` is safe and ends. The loop's invariant: the lent buffer keeps its length.
+-- `console::spool::copy_all` is safe and ends. The loop's invariant: the lent buffer keeps its length.
 -- Assumes nothing.
 use mathlib.Core.Path.{_≡_}
 use lib.ListN.{length}
 use borrow.Author.Needs.{needs}
-use Rattle.convert.proofs.spool.copy_all.Statement.{statement}
-use Rattle.convert.proofs.spool.copy_all.Tie as tie
+use Rattle.console.proofs.spool.copy_all.Statement.{statement}
+use Rattle.console.proofs.spool.copy_all.Tie as tie
 
 abbrev Inv-loop : tie.InvT-loop
-Inv-loop from path to buffer₀ copied₀ turns₀ buffer copied turns = length buffer ≡ length buffer₀
+Inv-loop command from path to buffer₀ copied₀ turns₀ buffer copied turns = length buffer ≡ length buffer₀
 
 abbrev μ-loop : tie.MeasureT-loop
-μ-loop from path to buffer₀ copied₀ turns₀ buffer copied turns = turns
+μ-loop command from path to buffer₀ copied₀ turns₀ buffer copied turns = turns
 
 loop-holds : tie.Need-loop-holds Inv-loop μ-loop
 loop-holds c = search needs
