@@ -1,10 +1,11 @@
-//! The command line: play a trace, turn a script into a trace and back, compare a player or a
-//! converter with the model, answer the worked cases, write the samples, generate traces, time the
-//! proved code.
+//! The command line: play a trace, turn a script into a trace and back, say what a script comes to
+//! and what looks wrong in it, compare a proved program with the model, answer the worked cases,
+//! write the samples, generate traces, time the proved code.
 
 mod commands;
 
-use commands::{bench, compare, convert, generate, play, Failure};
+use commands::{bench, compare, convert, generate, play, show, Failure};
+use independent::compare::answers::ANSWERS;
 use independent::compare::players::PLAYERS;
 use independent::compare::scripts::CONVERTERS;
 use std::ffi::OsString;
@@ -14,8 +15,10 @@ use std::process::ExitCode;
 
 const USAGE: &str = "use: independent play FILE | cases | samples FOLDER | \
 convert trace ADDRESS SCRIPT OUT PART | convert text TRACE | \
+show [--json] ADDRESS SCRIPT | show [--json] TRACE | check [--json] ADDRESS SCRIPT | \
 compare PLAYER [--seed S] [--count N] [--keep DIR] [--tally] | \
 compare-scripts CONVERT [--seed S] [--count N] [--keep DIR] [--tally] | \
+compare-answers SHOW [--seed S] [--count N] [--keep DIR] [--tally] | \
 generate SEED KIND OUT | generate SEED large RECORDS OUT | bench PLAYER";
 
 fn main() -> ExitCode {
@@ -44,10 +47,13 @@ fn run(arguments: &[OsString]) -> Result<(), Failure> {
             convert::trace(address, Path::new(script), Path::new(out))
         }
         ("convert", [what, trace]) if what == "text" => convert::text(Path::new(trace)),
+        ("show", arguments) => show::show(arguments),
+        ("check", arguments) => show::check(arguments),
         ("compare", [player, options @ ..]) => compare::run(&PLAYERS, player, options),
         ("compare-scripts", [converter, options @ ..]) => {
             compare::run(&CONVERTERS, converter, options)
         }
+        ("compare-answers", [program, options @ ..]) => compare::run(&ANSWERS, program, options),
         ("generate", [seed, kind, out]) => generate::one(seed, kind, Path::new(out)),
         ("generate", [seed, kind, records, out]) if kind == "large" => {
             generate::large(seed, records, Path::new(out))

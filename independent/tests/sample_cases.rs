@@ -37,11 +37,13 @@ fn the_data_sheet_has_133_calls_in_ten_blocks() {
 }
 
 #[test]
-fn the_script_of_the_weighbridge_is_its_set_up() {
-    let script = fs::read(stored().join("weighbridge.script")).unwrap();
-    let trace = fs::read(stored().join("weighbridge.trace")).unwrap();
-    let set_up = to_trace(0x3D, &script).unwrap();
-    assert_eq!(set_up.len(), 5 + 21 * 6);
-    assert!(trace.starts_with(&set_up));
-    assert_eq!(trace[set_up.len() + 2], 0x03, "then the first question");
+fn the_scripts_of_the_weighbridges_are_their_set_ups() {
+    for name in ["weighbridge", "wrong_page"] {
+        let script = fs::read(stored().join(format!("{name}.script"))).unwrap();
+        let trace = fs::read(stored().join(format!("{name}.trace"))).unwrap();
+        let set_up = to_trace(0x3D, &script).unwrap();
+        assert_eq!(set_up.len(), 5 + 21 * 6, "{name}");
+        assert!(trace.starts_with(&set_up), "{name}");
+        assert_eq!(trace[set_up.len() + 2], 0x03, "then the first question");
+    }
 }

@@ -48,7 +48,7 @@ no-call Blank h = refl
 no-call (CallFound offset value) h = absurd (h offset value refl)
 
 -- the definition's length is that of the first line
-first-found : (bytes : List ℕ) → FirstScriptLine bytes (scriptLineLength bytes)
+pub first-found : (bytes : List ℕ) → FirstScriptLine bytes (scriptLineLength bytes)
 unfolding scriptLineLength
 first-found [] = record { within = omega arith; before = refl; ended = λ h. absurd (omega arith) }
 first-found (byte ∷ bytes) = go (eqb byte 10) refl (first-found bytes)
@@ -71,14 +71,14 @@ length-found (byte ∷ bytes) (suc n) first =
     (ap suc (length-found bytes n (record { within = omega arith; before = tests .1; ended = λ h. first .ended (omega arith) })))
 
 -- what so many bytes come to as a line that ends in a line feed, and as one that does not
-abbrev endedReply : ℕ → List ℕ → Reply LineWithCalls
+abbrev pub endedReply : ℕ → List ℕ → Reply LineWithCalls
 endedReply n bytes = onReply (λ (calls : List RegisterWrite). record { count = n; calls = calls }) (scriptLineReply (take n bytes))
 
-abbrev unendedReply : ℕ → Reply LineWithCalls
+abbrev pub unendedReply : ℕ → Reply LineWithCalls
 unendedReply n = refused (cond (ltb longestScriptLine n) 15 14)
 
 -- the first line is either
-either-line : (P : Reply LineWithCalls → Type 0) (bytes : List ℕ) (n : ℕ) → FirstScriptLine bytes n → (n < length bytes → P (endedReply n bytes))
+pub either-line : (P : Reply LineWithCalls → Type 0) (bytes : List ℕ) (n : ℕ) → FirstScriptLine bytes n → (n < length bytes → P (endedReply n bytes))
     → (length bytes ≤ n → P (unendedReply n)) → P (firstLineReply bytes)
 unfolding firstLineReply
 either-line P bytes n first ended unended = rw (sym (length-found bytes n first)) (go (ltb n (length bytes)) refl)
@@ -92,25 +92,32 @@ module _ (bytes : List ℕ) (n : ℕ) (first : FirstScriptLine bytes n) where
   line-bytes : length (take n bytes) ≡ n
   line-bytes = length-take-le n bytes (first .within)
 
+  -- a line that ends in a line feed is the first part, and one that has none is the last
+  pub parts-ended : n < length bytes → partsOf bytes ≡ take n bytes ∷ partsOf (drop (n + 1) bytes)
+  parts-ended h =
+      let cut : bytes ≡ take n bytes ++ (10 ∷ drop (n + 1) bytes) =
+      split-at bytes n 0 h ∙ ap (λ (b : ℕ). take n bytes ++ (b ∷ drop (suc n) bytes)) (first .ended h) ∙ rw (add-one n) in
+      ap partsOf cut ∙ parts-next (take n bytes) (drop (n + 1) bytes) (first .before)
+
+  pub parts-unended : length bytes ≤ n → partsOf bytes ≡ bytes ∷ []
+  parts-unended h = parts-last bytes (rw (take-all n bytes h) at (first .before))
+
+  -- the rest of the text, which has no line feed, is refused
+  pub rest-refused : 0 < length bytes → length bytes ≤ n → (number : ℕ) → restReply number bytes ≡ refusedAt (cond (ltb longestScriptLine n) 15 14) number
+  unfolding restReply
+  rest-refused byte h number =
+      let w = first .within in
+      let all : length bytes ≡ n = omega arith in
+      rw (ne-eqb (length bytes) 0 (λ (z : length bytes ≡ 0). omega arith), all)
+
   -- a line that ends in a line feed comes to what it is, and what follows
   ended-line : n < length bytes → (number : ℕ)
       → callsFrom number (partsOf bytes) ≡ scriptLineThen number (scriptLineReply (take n bytes)) (callsFrom (suc number) (partsOf (drop (n + 1) bytes)))
-  ended-line h number =
-      let cut : bytes ≡ take n bytes ++ (10 ∷ drop (n + 1) bytes) =
-      split-at bytes n 0 h ∙ ap (λ (b : ℕ). take n bytes ++ (b ∷ drop (suc n) bytes)) (first .ended h) ∙ rw (add-one n) in
-      ap (λ (t : List ℕ). callsFrom number (partsOf t)) cut
-      ∙ ap (callsFrom number) (parts-next (take n bytes) (drop (n + 1) bytes) (first .before))
-      ∙ calls-next number (take n bytes) (drop (n + 1) bytes)
+  ended-line h number = ap (callsFrom number) (parts-ended h) ∙ calls-next number (take n bytes) (drop (n + 1) bytes)
 
-  -- one that has none is the rest of the text, and is refused
+  -- one that has none is refused
   unended-line : 0 < length bytes → length bytes ≤ n → (number : ℕ) → callsFrom number (partsOf bytes) ≡ refusedAt (cond (ltb longestScriptLine n) 15 14) number
-  unfolding restReply
-  unended-line byte h number =
-      let w = first .within in
-      let all : length bytes ≡ n = omega arith in
-      ap (callsFrom number) (parts-last bytes (rw (take-all n bytes h) at (first .before)))
-      ∙ calls-last number bytes
-      ∙ rw (ne-eqb (length bytes) 0 (λ (z : length bytes ≡ 0). omega arith), all)
+  unended-line byte h number = ap (callsFrom number) (parts-unended h) ∙ calls-last number bytes ∙ rest-refused byte h number
 
   -- a line of over 200 bytes, whether it ends or not
   pub too-long : longestScriptLine < n → firstLineReply bytes ≡ refused 15

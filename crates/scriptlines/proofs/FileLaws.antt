@@ -77,7 +77,7 @@ module _ (last : Bool) (done : LinesDone) (bytes lent : List ℕ) (room : record
   enough one long true e = ap not (ne-eqb (length bytes) 0 (λ z. absurd (omega arith)))
   enough one long false e = let over = long e in rw (lt-ltb longestScriptLine (length bytes) (omega arith))
 
-  fewer : 1 ≤ length bytes → (last ≡ false → longestScriptLine + 1 ≤ length bytes) → lineRefused (after .done) ≡ false
+  pub fewer : 1 ≤ length bytes → (last ≡ false → longestScriptLine + 1 ≤ length bytes) → lineRefused (after .done) ≡ false
       → length (after .left) < length bytes
   fewer one long none =
       left-less (length bytes) last before (omega arith) (may-take (none-before none) (enough one long last refl))
@@ -95,7 +95,7 @@ by-windows =
     }
 
 -- the records that were put out before the end
-put-end : (done : LinesDone) (put : List ℕ) → putThen put (recordsReply done []) ≡ recordsReply done put
+pub put-end : (done : LinesDone) (put : List ℕ) → putThen put (recordsReply done []) ≡ recordsReply done put
 put-end done put = go (eqb (done .refusal) 0)
   where
     go : (b : Bool) → let refusal = refusedAt (done .refusal) (done .lines + 1) in putThen put (cond b (given []) refusal) ≡ cond b (given put) refusal

@@ -37,7 +37,7 @@ some-left true left h = let ne = eqb-false (length left) 0 (not-true (eqb (lengt
 some-left false left h = holds-some left h
 
 -- and its next line is the file's, whatever follows the window
-same-next : (last : Bool) (left rest : List ℕ) → (last ≡ true → rest ≡ []) → shows last left ≡ true → firstLineReply (left ++ rest) ≡ firstLineReply left
+pub same-next : (last : Bool) (left rest : List ℕ) → (last ≡ true → rest ≡ []) → shows last left ≡ true → firstLineReply (left ++ rest) ≡ firstLineReply left
 same-next true left rest ends h = rw (ends refl, append-nil left)
 same-next false left rest ends h = same-first left rest h
 
@@ -69,7 +69,7 @@ records-joined here (refusedWith number detail) = refl
 records-joined here (given later) = ap given (writes-append here later)
 
 -- one line, by what it comes to
-by-line : (P : LinesState → Type 0) (state : LinesState)
+pub by-line : (P : LinesState → Type 0) (state : LinesState)
     → ((number : ℕ) (detail : Option ℕ) → firstLineReply (state .left) ≡ refusedWith number detail → P (afterLine state (refusedWith number detail)))
     → ((line : LineWithCalls) → firstLineReply (state .left) ≡ given line → P (afterLine state (given line))) → P (takeOne state)
 unfolding takeOne
@@ -107,7 +107,7 @@ module _ (last : Bool) (state : LinesState) (may : mayTake last state ≡ true) 
   left = state .left
 
   -- what the tests tell
-  tests : (state .done .refusal ≡ 0) × (shows last left ≡ true) × (state .at + recordRoom ≤ length (state .out))
+  pub tests : (state .done .refusal ≡ 0) × (shows last left ≡ true) × (state .at + recordRoom ≤ length (state .out))
   unfolding mayTakeNext
   tests =
       let on = eqb (state .done .refusal) 0 in
@@ -226,7 +226,7 @@ module _ (rest : List ℕ) where
       }
 
 -- the window's lines by the test of the first of them
-by-first : (P : LinesState → Type 0) (n : ℕ) (last : Bool) (state : LinesState) → (mayTake last state ≡ true → P (takeLines n last (takeOne state)))
+pub by-first : (P : LinesState → Type 0) (n : ℕ) (last : Bool) (state : LinesState) → (mayTake last state ≡ true → P (takeLines n last (takeOne state)))
     → (mayTake last state ≡ false → P state) → P (takeLines (suc n) last state)
 unfolding takeLines
 by-first P n last state more none = go (mayTake last state) refl

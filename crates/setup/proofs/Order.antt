@@ -19,8 +19,8 @@ use Rattle.setup.proofs.Runs.{afterBlocks, after-block, after-blocks}
 use Rattle.setup.proofs.Selecting.{same-selecting, only-selecting, none-selecting, reordered}
 
 -- routes and answers to a write depend on the pages, FWD_CTL1 and the own address alone
-alike : (hub : Hub) (a b : RegisterFile) → a .pages ≡ b .pages → SameShared (withRegisters hub a) (withRegisters hub b)
-    → Alike (withRegisters hub a) (withRegisters hub b)
+pub alike : (hub : Hub) (a b : RegisterFile) → a .pages ≡ b .pages
+    → SameShared (withRegisters hub a) (withRegisters hub b) → Alike (withRegisters hub a) (withRegisters hub b)
 alike hub a b pages shared =
     record {
       pages = pages;

@@ -12,8 +12,10 @@ use lib.ListN.{length, take, drop, length-take, length-drop, drop-of-length-le, 
 use lib.Seq.{take-all, take-add, drop-length}
 use Rattle.laws.specs.Buffers.{written}
 use Rattle.laws.proofs.Absurd.{zero-not-one}
+use Rattle.laws.proofs.Buffers.{read-written}
 use Rattle.streams.specs.declared.Window.{Window}
-use Rattle.streams.specs.Streams.{fileEnded, afterRead, ReadsAfterHeld, bytesRead, Way, TurnInput, StandsAt, ReadGave}
+use Rattle.streams.specs.Streams.{fileEnded, afterRead, ReadsAfterHeld, nothingLeft, Worked, Work, Way, TurnInput, bytesRead, nextTurn}
+use Rattle.streams.specs.Streams.{StandsAt, ReadGave, IsNextTurn}
 
 module _ (n : ℕ) (l : List ℕ) where
   by-length : (P : ℕ → Type 0) → (n ≤ length l → P n) → (length l ≤ n → P (length l)) → P (min n (length l))
@@ -116,10 +118,40 @@ made-slide buffer used held {from} {to} t f c w =
 -- the bytes that a program's turn works on are those of the way's next turn, and so is whether they are the last
 module _ {S : Type 0} (way : Way S) (input : TurnInput) (state : S) (window : Window) (got : ℕ) (buffer : List ℕ)
     (at : StandsAt way state window buffer) (gave : ReadGave way input window got buffer) where
-  pub turn-bytes : take (afterRead window got (length buffer) .held) buffer
-      ≡ way .left ++ bytesRead (length buffer - length (way .left)) (input .more) (way .unread)
+  abbrev nextBytes : List ℕ
+  nextBytes = bytesRead (length buffer - length (way .left)) (input .more) (way .unread)
+
+  abbrev nextEnded : Bool
+  nextEnded = fileEnded (way .last) (length (way .left)) (length buffer) (length nextBytes)
+
+  turn-bytes : take (afterRead window got (length buffer) .held) buffer ≡ way .left ++ nextBytes
   turn-bytes = reads-after-held window got buffer .bytes ∙ ap₂ _++_ (at .held) gave
 
-  pub turn-last : afterRead window got (length buffer) .last
-      ≡ fileEnded (way .last) (length (way .left)) (length buffer) (length (bytesRead (length buffer - length (way .left)) (input .more) (way .unread)))
+  turn-last : afterRead window got (length buffer) .last ≡ nextEnded
   turn-last = reads-after-held window got buffer .last ∙ rw (at .last, at .held, gave)
+
+  -- so a program's turn that does the work with them is that turn
+  module _ (work : Work S) where
+    abbrev worked : Worked S
+    worked = let read = afterRead window got (length buffer) in work (read .last) state (take (read .held) buffer) (input .lent)
+
+    same-work : worked ≡ work nextEnded (way .state) (way .left ++ nextBytes) (input .lent)
+    same-work = rw (turn-bytes, turn-last, at .sameState)
+
+    pub is-next-turn : {after : S} {next : Window} {bufferAfter put : List ℕ} {done : Bool} → after ≡ worked .state
+        → next ≡ record { held = length (worked .left); last = afterRead window got (length buffer) .last }
+        → bufferAfter ≡ written buffer 0 (worked .left) → length (worked .left) ≤ length buffer → put ≡ worked .put
+        → done ≡ nothingLeft (worked .over) (afterRead window got (length buffer) .last) (length (worked .left))
+        → IsNextTurn work (length buffer) way input after next bufferAfter put done
+    unfolding nextTurn
+    is-next-turn s w b fits p d =
+        record {
+          stands =
+              record {
+                sameState = s ∙ ap (λ (r : Worked S). r .state) same-work;
+                held = rw (w, b) (read-written buffer 0 (worked .left) (omega arith) ∙ ap (λ (r : Worked S). r .left) same-work);
+                last = rw w turn-last;
+              };
+          text = ap (λ (l : List ℕ). way .put ++ l) (sym (p ∙ ap (λ (r : Worked S). r .put) same-work));
+          ends = sym (d ∙ ap₂ (λ (r : Worked S) (last : Bool). nothingLeft (r .over) last (length (r .left))) same-work turn-last);
+        }

@@ -1,4 +1,4 @@
-//! The commands `compare`, `compare-scripts` and `cases`.
+//! The commands `compare`, `compare-scripts`, `compare-answers` and `cases`.
 
 use super::{cannot_print, number, program, Failure};
 use independent::compare::cases;

@@ -34,7 +34,7 @@ pub fn text(trace: &Path) -> Result<(), Failure> {
 }
 
 /// Two hex digits in either case.
-fn hex_byte(text: &str) -> Result<u8, Failure> {
+pub fn hex_byte(text: &str) -> Result<u8, Failure> {
     let is_hex = text.len() == 2 && text.bytes().all(|byte| byte.is_ascii_hexdigit());
     let byte = u8::from_str_radix(text, 16).ok().filter(|_| is_hex);
     let problem = || Failure::Call(format!("the address must be two hex digits, not {text}"));
@@ -42,7 +42,7 @@ fn hex_byte(text: &str) -> Result<u8, Failure> {
 }
 
 /// The whole file, or standard input for -.
-fn read(path: &Path) -> Result<Vec<u8>, Failure> {
+pub fn read(path: &Path) -> Result<Vec<u8>, Failure> {
     let got = if path.as_os_str() == "-" {
         let mut bytes = Vec::new();
         io::stdin().read_to_end(&mut bytes).map(|_| bytes)

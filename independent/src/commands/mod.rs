@@ -5,6 +5,7 @@ pub mod compare;
 pub mod convert;
 pub mod generate;
 pub mod play;
+pub mod show;
 
 use std::ffi::OsString;
 use std::path::{Path, PathBuf};

@@ -49,16 +49,25 @@ pub enum ExpectedStderr {
 
 /// What is wrong with a run, if anything.
 pub fn what_is_wrong(run: &Run, stdout: &[u8], stderr: &ExpectedStderr) -> Option<String> {
-    let status = match run.ending {
+    what_is_wrong_in_text(run, stdout, stderr).or_else(|| match run.ending {
+        Ending::Exited(status) if !status.success() => {
+            Some(format!("the right text, but the run ended with {status}"))
+        }
+        _ => None,
+    })
+}
+
+/// The same where the exit status does not matter.
+pub fn what_is_wrong_in_text(run: &Run, stdout: &[u8], stderr: &ExpectedStderr) -> Option<String> {
+    match run.ending {
         Ending::TookTooLong => return Some("the program did not come to an end".into()),
         Ending::PrintedTooMuch => return Some("the program did not stop printing".into()),
-        Ending::Exited(status) => status,
-    };
+        Ending::Exited(_) => {}
+    }
     if run.stdout != stdout {
         return Some(first_differing_line(stdout, &run.stdout));
     }
-    let failed = || format!("the right text, but the run ended with {status}");
-    wrong_stderr(&run.stderr, stderr).or_else(|| (!status.success()).then(failed))
+    wrong_stderr(&run.stderr, stderr)
 }
 
 fn wrong_stderr(text: &[u8], expected: &ExpectedStderr) -> Option<String> {
@@ -102,9 +111,27 @@ fn first_differing_line(expected: &[u8], got: &[u8]) -> String {
         number += 1;
         let (right, given) = (expected.next(), got.next());
         if right != given || right.is_none() {
-            let (right, given) = (shown(right), shown(given));
-            return format!("line {number} should be {right} and is {given}");
+            let from = place_to_show(right.unwrap_or_default(), given.unwrap_or_default());
+            let place = match from {
+                0 => String::new(),
+                _ => format!(", from byte {from} on,"),
+            };
+            let cut = |line: Option<&'_ [u8]>| shown(line.map(|line| &line[from..]));
+            let (right, given) = (cut(right), cut(given));
+            return format!("line {number}{place} should be {right} and is {given}");
         }
+    }
+}
+
+/// Where lines that begin alike are shown from: a little before the byte in which they differ.
+fn place_to_show(right: &[u8], given: &[u8]) -> usize {
+    let alike = right
+        .iter()
+        .zip(given)
+        .take_while(|(one, other)| one == other);
+    match alike.count() {
+        0..60 => 0,
+        count => count - 30,
     }
 }
 

@@ -1,6 +1,7 @@
 //! Comparisons: proved programs are run on generated inputs and their output is compared with the
 //! model's, and the functions of the proved library are called beside the model's.
 
+pub mod answers;
 pub mod cases;
 pub mod comparison;
 pub mod coverage;

@@ -1,5 +1,6 @@
 //! Generators: seeded traces and scripts for the comparisons, and the samples.
 
+pub mod answers;
 pub mod rng;
 pub mod samples;
 pub mod scripts;

@@ -6,6 +6,7 @@ pub const SCL_LOW_TIME: u8 = 0x0B;
 pub const MAX_FRM_HI: u8 = 0x1D;
 pub const MAX_FRM_LO: u8 = 0x1E;
 pub const FWD_CTL1: u8 = 0x20;
+pub const FWD_CTL2: u8 = 0x21;
 pub const FPD3_PORT_SEL: u8 = 0x4C;
 pub const BCC_CONFIG: u8 = 0x58;
 pub const SER_ID: u8 = 0x5B;

@@ -3,7 +3,7 @@
 mod borders;
 mod edits;
 mod kinds;
-mod lines;
+pub(super) mod lines;
 mod texts;
 mod traces;
 mod wrong;

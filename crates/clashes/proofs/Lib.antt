@@ -1,0 +1,3 @@
+pub mod TwoPorts
+pub mod ChannelLaws
+pub mod AddressLaws

@@ -1,0 +1,14 @@
+-- `clashes::addresses::behind_or` meets its contract.
+-- Assumes nothing.
+use borrow.Author.Tests.{eq-eqb, ne-eqb}
+use Rattle.clashes.proofs.addresses.behind_or.Statement.{statement}
+use Rattle.clashes.proofs.addresses.behind_or.Tie as tie
+
+returns : tie.Need-returns
+returns c = rw (eq-eqb _ _ (c .if1 .taken))
+
+returns-2 : tie.Need-returns-2
+returns-2 c = rw (ne-eqb _ _ (c .if1 .left))
+
+pub behind-or-spec : {M : Type 1} → statement M
+behind-or-spec = tie.close (tie.spec returns returns-2)

@@ -1,0 +1,9 @@
+pub mod RisingLines
+pub mod ArrayPlaces
+pub mod OneLine
+pub mod FindingLaws
+pub mod ChannelLaws
+pub mod SharedChannels
+pub mod AddressLaws
+pub mod SharedAddresses
+pub mod UnsetLaws

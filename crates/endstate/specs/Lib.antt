@@ -1,0 +1,6 @@
+pub mod RisingLines
+pub mod Gathering
+pub mod Findings
+pub mod Channels
+pub mod Addresses
+pub mod Unset

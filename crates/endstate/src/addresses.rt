@@ -1,0 +1,158 @@
+// The lines that make devices hear an address, and the ports that one address reaches, with the lines of the aliases.
+ghost use mathlib.Core.Path.{_≡_};
+ghost use mathlib.Core.List.{List, _∷_, _++_};
+ghost use Prim.Native.Nat.{ℕ, _+_, _<_, _≤_};
+ghost use lib.ListN.{length};
+ghost use Rattle.origins.specs.Origins.{portRegister};
+ghost use Rattle.origins.specs.KeptOrigins.{keptNumber};
+ghost use Rattle.translation.specs.Translation.{devicesOf, whoHearsWrite};
+ghost use Rattle.endstate.specs.RisingLines.{risingLines, linesOf};
+ghost use Rattle.endstate.specs.Gathering.{Gathers};
+ghost use Rattle.endstate.specs.Findings.{findingOf};
+ghost use Rattle.endstate.specs.Addresses.{registerOrigin, aliasOrigin, remoteOrigin, deviceOrigins};
+ghost use Rattle.endstate.specs.Addresses.{devicesOrigins, aliasOrigins, hearers, addressLines, sameAddress};
+use crate::findings::Clash;
+use crate::gathering;
+use crate::gathering::Gathered;
+use crate::grading;
+use crate::lines;
+use crate::lines::Lines;
+use clashes::addresses;
+use hub::Hub;
+use origins::RegistersWithOrigins;
+use translation::Devices;
+use translation::PortDevice;
+use translation::Remote;
+use translation::WriteAnswer;
+
+// The origin of the register of a port that stands `number` places behind the first of a row; there is none past 0xFF.
+fn origin_in_row(state: RegistersWithOrigins, port: u8, first: u8, number: u8) -> u64
+    ensures { λ r. ⌜ r ≡ keptNumber state (portRegister port (first + number)) ⌝ }
+{
+    if 255 - first < number {
+        return 0;
+    }
+    origins::port_origin(state, port, first + number)
+}
+
+// The origin of a register of a device: the serializer's, or that of the target with its number, in the row from
+// `targets` on.
+fn register_origin(
+    state: RegistersWithOrigins,
+    device: PortDevice,
+    serializer: u8,
+    targets: u8,
+) -> u64
+    ensures { λ r. ⌜ r ≡ registerOrigin state device serializer targets ⌝ }
+{
+    let remote = device.remote;
+    match remote {
+        Remote::Serializer { address: _ } => origins::port_origin(state, device.port, serializer),
+        Remote::Target { number, address: _ } => {
+            origin_in_row(state, device.port, targets, number)
+        }
+    }
+}
+
+// The origin of a device's alias.
+fn alias_origin(state: RegistersWithOrigins, device: PortDevice) -> u64
+    ensures { λ r. ⌜ r ≡ aliasOrigin state device ⌝ }
+{
+    register_origin(state, device, 0x5C, 0x65)
+}
+
+// The origin of a device's remote address.
+fn remote_origin(state: RegistersWithOrigins, device: PortDevice) -> u64
+    ensures { λ r. ⌜ r ≡ remoteOrigin state device ⌝ }
+{
+    register_origin(state, device, 0x5B, 0x5D)
+}
+
+// The lines, and those of a device: pass-through, alias and remote address.
+fn with_device(lines: Lines, state: RegistersWithOrigins, device: PortDevice) -> Lines
+    ensures { λ r. ⌜ ((numbers : List ℕ) → length numbers + 3 ≤ 12 → linesOf lines ≡ risingLines numbers
+        → linesOf r ≡ risingLines (deviceOrigins state device ++ numbers)) ⌝ }
+{
+    let with_remote = lines::with_line(lines, remote_origin(state, device));
+    let with_alias = lines::with_line(with_remote, alias_origin(state, device));
+    lines::with_line(with_alias, origins::port_origin(state, device.port, 0x58))
+}
+
+// The lines of some devices.
+fn lines_of_devices(state: RegistersWithOrigins, devices: Devices) -> Lines
+    ensures { λ r. ⌜ linesOf r ≡ risingLines (devicesOrigins state (devicesOf devices)) ⌝ }
+{
+    let none = lines::no_lines();
+    match devices {
+        Devices::One(a) => with_device(none, state, a),
+        Devices::Two(a, b) => with_device(with_device(none, state, b), state, a),
+        Devices::Three(a, b, c) => {
+            with_device(with_device(with_device(none, state, c), state, b), state, a)
+        }
+        Devices::Four(a, b, c, d) => with_device(
+            with_device(with_device(with_device(none, state, d), state, c), state, b),
+            state,
+            a,
+        ),
+    }
+}
+
+// The lines of an address: those of each device that hears a write to it.
+pub fn address_lines(hub: Hub, state: RegistersWithOrigins, address: u8) -> Lines
+    ensures { λ r. ⌜ linesOf r ≡ addressLines hub state address ⌝ }
+{
+    match translation::who_hears_write(hub, address) {
+        WriteAnswer::AddressAbove7F => lines::no_lines(),
+        WriteAnswer::Hub => lines::no_lines(),
+        WriteAnswer::NoDevice => lines::no_lines(),
+        WriteAnswer::Devices(devices) => lines_of_devices(state, devices),
+    }
+}
+
+// The origins, and that of a device's alias before them.
+fn with_alias(gathered: Gathered, state: RegistersWithOrigins, device: PortDevice) -> Gathered
+    ensures { λ r. ⌜ ((numbers : List ℕ) → length numbers < 12 → Gathers numbers gathered
+        → Gathers (aliasOrigin state device ∷ numbers) r) ⌝ }
+{
+    gathering::with_origin(gathered, alias_origin(state, device))
+}
+
+// The origins of the aliases of some devices.
+fn aliases_of_devices(state: RegistersWithOrigins, devices: Devices) -> Gathered
+    ensures { λ r. ⌜ Gathers (aliasOrigins state (devicesOf devices)) r ⌝ }
+{
+    let none = gathering::nothing();
+    match devices {
+        Devices::One(a) => with_alias(none, state, a),
+        Devices::Two(a, b) => with_alias(with_alias(none, state, b), state, a),
+        Devices::Three(a, b, c) => {
+            with_alias(with_alias(with_alias(none, state, c), state, b), state, a)
+        }
+        Devices::Four(a, b, c, d) => with_alias(
+            with_alias(with_alias(with_alias(none, state, d), state, c), state, b),
+            state,
+            a,
+        ),
+    }
+}
+
+// The origins of the aliases of the devices that hear a write to an address.
+fn aliases_that_match(hub: Hub, state: RegistersWithOrigins, address: u8) -> Gathered
+    ensures { λ r. ⌜ Gathers (aliasOrigins state (hearers (whoHearsWrite hub address))) r ⌝ }
+{
+    match translation::who_hears_write(hub, address) {
+        WriteAnswer::AddressAbove7F => gathering::nothing(),
+        WriteAnswer::Hub => gathering::nothing(),
+        WriteAnswer::NoDevice => gathering::nothing(),
+        WriteAnswer::Devices(devices) => aliases_of_devices(state, devices),
+    }
+}
+
+// What is found of an address: the ports that a write to it reaches.
+pub fn same_address(hub: Hub, state: RegistersWithOrigins, address: u8) -> Clash
+    ensures { λ r. ⌜ findingOf r ≡ sameAddress hub state address ⌝ }
+{
+    let ports = addresses::ports_reached(hub, address);
+    let gathered = aliases_that_match(hub, state, address);
+    grading::shared_by(ports, gathered, false)
+}

@@ -1,0 +1,15 @@
+pub mod KindLaws
+pub mod TickLaws
+pub mod LastTicking
+pub mod OrderCases
+pub mod InsideCases
+pub mod OrderLaws
+pub mod BlockLaws
+pub mod LayoutOnly
+pub mod LayoutEvery
+pub mod NotFollowed
+pub mod Reordered
+pub mod InsideLaws
+pub mod FindingLaws
+pub mod FindingsExplain
+pub mod Examples

@@ -1,0 +1,7 @@
+pub mod Kinds
+pub mod Ticks
+pub mod Orders
+pub mod Layouts
+pub mod Inside
+pub mod Findings
+pub mod Examples

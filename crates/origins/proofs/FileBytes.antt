@@ -1,0 +1,55 @@
+-- What holds of a register file by its type holds after a write.
+-- Assumes nothing.
+use mathlib.Core.Path.{_≡_, refl, _∙_}
+use mathlib.Core.Bool.{Bool, true, false}
+use mathlib.Core.List.{List, [], _∷_}
+use Prim.Native.Nat.{ℕ, _+_, _*_, _/_, _%_, _≤_, _<_}
+use native.Mathlib.Omega.{arith}
+use borrow.Author.Tests.{ltb-true, ltb-false}
+use lib.Dec.{ltb}
+use lib.ListN.{length, getD, List·getD-eq-default}
+use Rattle.laws.specs.Elements.{AreBytes}
+use Rattle.registers.specs.declared.RegisterFile.{RegisterFile}
+use Rattle.registers.specs.Bursts.{writeEach}
+use Rattle.origins.specs.NumberedWrites.{NumberedWrite, unnumberedWrites}
+use Rattle.origins.specs.Origins.{Register, sharedRegister, portRegister, IsRegister, valueAt}
+use Rattle.origins.specs.Origins.{reaches, afterNumbered, FileOfBytes, BytesKept}
+use Rattle.origins.proofs.OneWrite.{counts, value-byte}
+use Rattle.origins.proofs.Origins.{after-one, byte-after}
+
+-- a list of n elements, of which each is a byte
+all-bytes : (l : List ℕ) (n : ℕ) → length l ≡ n → ((i : ℕ) → i < n → getD l i 0 < 256) → AreBytes l
+all-bytes l n count each i = go (ltb i n) refl
+  where
+    go : (b : Bool) → ltb i n ≡ b → getD l i 0 < 256
+    go true e = each i (ltb-true i n e)
+    go false e =
+        let past : length l ≤ i = omega (arith, count, ltb-false i n e) in
+        let none : getD l i 0 ≡ 0 = List·getD-eq-default l 0 past in
+        omega arith
+
+module _ (file : RegisterFile) (f : FileOfBytes file) (write : NumberedWrite) where
+  register-byte : (register : Register) → IsRegister register → valueAt (afterNumbered file write) register < 256
+  register-byte register h =
+      rw (after-one register h file (f .sharedCount) (f .pageCount) (value-byte file f register) write)
+      (byte-after register h (reaches file (write .offset) register) (valueAt file register) (write .value)
+      (value-byte file f register))
+
+  one-kept : FileOfBytes (afterNumbered file write)
+  one-kept =
+      let c = counts file (write .offset) (write .value) (f .pageCount) in
+      record {
+        sharedCount = c .0 ∙ f .sharedCount;
+        pageCount = c .1;
+        sharedBytes = all-bytes (afterNumbered file write .shared) 256 (c .0 ∙ f .sharedCount)
+            (λ i h. register-byte (sharedRegister i) h);
+        pageBytes = all-bytes (afterNumbered file write .pages) 1024 (c .1)
+            (λ i (h : i < 1024).
+            let e : 256 * (i / 256) + i % 256 ≡ i = omega arith in
+            rw e at (register-byte (portRegister (i / 256) (i % 256)) (omega arith, omega arith)));
+      }
+
+pub bytes-kept : BytesKept
+unfolding writeEach unnumberedWrites
+bytes-kept file f [] = f
+bytes-kept file f (write ∷ writes) = bytes-kept (afterNumbered file write) (one-kept file f write) writes

@@ -1,0 +1,10 @@
+pub mod NumberedWrites
+pub mod Reaching
+pub mod OneWrite
+pub mod LastWrites
+pub mod Origins
+pub mod FileBytes
+pub mod KeptOrigins
+pub mod EffectLaws
+pub mod EffectMeanings
+pub mod IgnoredBits

@@ -1,0 +1,4 @@
+pub mod NumberedWrites
+pub mod Origins
+pub mod KeptOrigins
+pub mod Effects

@@ -1,0 +1,2 @@
+pub mod EventHubs
+pub mod PlayedLaws

@@ -1,0 +1,4 @@
+pub mod NumberedCalls
+pub mod WriteLaws
+pub mod Turns
+pub mod Examples

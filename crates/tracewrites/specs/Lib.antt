@@ -1,0 +1,4 @@
+pub mod TraceWrites
+pub mod RecordTurns
+pub mod WriteFiles
+pub mod Examples

@@ -1,0 +1,123 @@
+// The next record of a window: whether there is one to take, and what it is.
+ghost use mathlib.Core.Path.{_≡_};
+ghost use Prim.Native.Nat.{_≤_};
+ghost use lib.ListN.{length};
+ghost use Rattle.tracewrites.specs.RecordTurns.{mostValues, mayTake, takenWith, notPassed, passedAs};
+ghost use Rattle.tracewrites.specs.RecordTurns.{takenHub, takeOne, refusalThen, takeNext};
+use crate::NextRecord;
+use crate::RecordTaken;
+use crate::TraceRefusal;
+use trace::FoundRecord;
+use trace::Record;
+
+// The values that have to have room for a record to be taken: no record has more.
+const MOST_VALUES: usize = 254;
+
+fn may_take(refusal: TraceRefusal, left: &[u8], last: bool, size: usize) -> bool
+    ensures { λ r. ⌜ r ≡ mayTake refusal (now (left .entry)) last size ⌝ }
+{
+    if crate::is_refusal(refusal) {
+        return false;
+    }
+    if size < MOST_VALUES {
+        return false;
+    }
+    if last {
+        return left.len() != 0;
+    }
+    trace::holds_record(left)
+}
+
+// No record is passed.
+fn not_passed(records: u64, refusal: TraceRefusal) -> RecordTaken
+    ensures { λ r. ⌜ r ≡ notPassed records refusal ⌝ }
+{
+    RecordTaken {
+        records,
+        refusal,
+        next: NextRecord::NoRecord,
+        used: 0,
+    }
+}
+
+// The record at the start of the bytes is passed.
+fn passed_as(records: u64, left: &[u8], next: NextRecord) -> RecordTaken
+    ensures { λ r. ⌜ r ≡ passedAs records (now (left .entry)) next ⌝ }
+{
+    RecordTaken {
+        records: crate::next_number(records),
+        refusal: TraceRefusal::NoRefusal,
+        next,
+        used: trace::record_length(left),
+    }
+}
+
+fn taken_hub(records: u64, left: &[u8], address: u8) -> RecordTaken
+    ensures { λ r. ⌜ r ≡ takenHub records (now (left .entry)) address ⌝ }
+{
+    if hub::is_hub_address(address) {
+        return passed_as(records, left, NextRecord::Hub { address });
+    }
+    not_passed(records, TraceRefusal::AddressOutOfRange)
+}
+
+// Takes the record at the start of what is left of a window; one that is refused stays.
+fn take_one(records: u64, left: &[u8], values: &mut [u8]) -> RecordTaken
+    requires { ⌜ mostValues ≤ length (now values) ⌝ }
+    ensures { λ r. ⌜ takenWith r (now (values .exit))
+        ≡ takeOne records (now (left .entry)) (now (values .entry)) ⌝ }
+{
+    let FoundRecord::Found(asked) = trace::record_at(left, records == 0) else {
+        return not_passed(records, TraceRefusal::MalformedRecord);
+    };
+    if let Record::Hub { address } = asked {
+        return taken_hub(records, left, address);
+    }
+    if let Record::Write { offset } = asked {
+        let number = crate::next_number(records);
+        let count = buffers::put_bytes(values, 0, trace::values(left));
+        return passed_as(
+            records,
+            left,
+            NextRecord::Write {
+                number,
+                offset,
+                count,
+            },
+        );
+    }
+    passed_as(records, left, NextRecord::Other)
+}
+
+// The refusal where no record is to be taken: a trace that ends before its first record is empty.
+fn refusal_then(records: u64, refusal: TraceRefusal, count: usize, last: bool) -> TraceRefusal
+    ensures { λ r. ⌜ r ≡ refusalThen records refusal count last ⌝ }
+{
+    if crate::is_refusal(refusal) {
+        return refusal;
+    }
+    if records != 0 {
+        return refusal;
+    }
+    if streams::nothing_left(false, last, count) {
+        return TraceRefusal::EmptyTrace;
+    }
+    refusal
+}
+
+// Takes the next record of a window, if there is one to take.
+pub(crate) fn take_next(
+    records: u64,
+    refusal: TraceRefusal,
+    left: &[u8],
+    last: bool,
+    values: &mut [u8],
+) -> RecordTaken
+    ensures { λ r. ⌜ takenWith r (now (values .exit))
+        ≡ takeNext last records refusal (now (left .entry)) (now (values .entry)) ⌝ }
+{
+    if may_take(refusal, left, last, values.len()) {
+        return take_one(records, left, values);
+    }
+    not_passed(records, refusal_then(records, refusal, left.len(), last))
+}

@@ -1,0 +1,188 @@
+//! The points that a comparison of answers must reach.
+
+use super::{clash_points, order_points, write_points};
+use crate::compare::coverage::Coverage;
+use crate::facts::answer::Answer;
+use crate::facts::findings::finding::{Finding, Grade, Kind};
+use crate::facts::given::{of_script, of_trace, Given};
+use crate::facts::run::run;
+use crate::generate::answers::Job;
+use crate::model::answer::Answer as Played;
+use crate::model::convert::Refused;
+use crate::model::player::Player;
+use crate::model::trace::{Record, RecordReader};
+
+pub const POINTS: &[&str] = &joined::<
+    {
+        HERE.len()
+            + order_points::POINTS.len()
+            + write_points::POINTS.len()
+            + clash_points::POINTS.len()
+    },
+>();
+
+const fn joined<const COUNT: usize>() -> [&'static str; COUNT] {
+    let parts = [
+        HERE,
+        order_points::POINTS,
+        write_points::POINTS,
+        clash_points::POINTS,
+    ];
+    let mut all = [""; COUNT];
+    let (mut part, mut inside, mut place) = (0, 0, 0);
+    while place < COUNT {
+        if inside == parts[part].len() {
+            (part, inside) = (part + 1, 0);
+            continue;
+        }
+        all[place] = parts[part][inside];
+        (inside, place) = (inside + 1, place + 1);
+    }
+    all
+}
+
+const HERE: &[&str] = &[
+    "a script taken",
+    "a script of no bytes",
+    "a script without a write",
+    "a script refused 2",
+    "a script refused 14",
+    "a script refused 15",
+    "a trace taken",
+    "a trace of no bytes refused 13",
+    "a trace of the hub record alone",
+    "a trace with records that change no register",
+    "a trace with a refused question or frame",
+    "a trace refused 2",
+    "a trace refused 13",
+    "a trace refused 13 after writes",
+    "a burst of several findings",
+    "a burst over 4C",
+    "a burst over FF to 00",
+    "no finding",
+    "notes alone",
+    "nothing but meant",
+    "a line above 255",
+    "a line above 65535",
+    "a script: replaced",
+    "a script: same-channel wrong",
+    "a script: same-channel meant",
+    "a script: same-address wrong",
+    "a script: same-address meant",
+    "a script: no-port",
+    "a script: not-set-up",
+    "a script: port-twice",
+    "a script: shared-in-block",
+    "a script: not-followed",
+    "a script: bits-ignored",
+    "a script: no-change",
+    "a script: odd-alias",
+    "a script: no-address",
+    "a trace: replaced",
+    "a trace: same-channel wrong",
+    "a trace: same-channel meant",
+    "a trace: same-address wrong",
+    "a trace: same-address meant",
+    "a trace: no-port",
+    "a trace: not-set-up",
+    "a trace: port-twice",
+    "a trace: shared-in-block",
+    "a trace: not-followed",
+    "a trace: bits-ignored",
+    "a trace: no-change",
+    "a trace: odd-alias",
+    "a trace: no-address",
+];
+
+pub fn note(coverage: &mut Coverage, job: &Job, answer: &Result<Answer, Refused>) {
+    let (form, size, given) = match job {
+        Job::Script { address, text } => ("script", text.len(), of_script(*address, text)),
+        Job::Trace { trace } => ("trace", trace.len(), of_trace(trace)),
+    };
+    if let Job::Trace { trace } = job {
+        note_records(coverage, trace, answer.is_err());
+    }
+    let no_bytes = if size == 0 { " of no bytes" } else { "" };
+    match (given, answer) {
+        (Ok(given), Ok(answer)) => {
+            coverage.note(&format!("a {form} taken"));
+            coverage.note(&format!("a {form}{no_bytes}"));
+            note_answer(coverage, form, &given, answer);
+        }
+        (_, Err(refused)) => {
+            let number = refused.refusal.number();
+            coverage.note(&format!("a {form} refused {number}"));
+            coverage.note(&format!("a {form}{no_bytes} refused {number}"));
+        }
+        _ => {}
+    }
+}
+
+fn note_answer(coverage: &mut Coverage, form: &str, given: &Given, answer: &Answer) {
+    if given.writes.is_empty() {
+        coverage.note(&format!("a {form} without a write"));
+    }
+    for finding in &answer.findings {
+        let kind = finding.kind.name();
+        coverage.note(&match finding.kind {
+            Kind::SameChannel | Kind::SameAddress => {
+                format!("a {form}: {kind} {}", finding.grade.name())
+            }
+            _ => format!("a {form}: {kind}"),
+        });
+        match finding.lines.last() {
+            Some(256..=65_535) => coverage.note("a line above 255"),
+            Some(65_536..) => coverage.note("a line above 65535"),
+            _ => {}
+        }
+    }
+    let all = |grade| answer.findings.iter().all(|it: &Finding| it.grade == grade);
+    match &answer.findings[..] {
+        [] => coverage.note("no finding"),
+        _ if all(Grade::Note) => coverage.note("notes alone"),
+        _ if all(Grade::Meant) => coverage.note("nothing but meant"),
+        _ => {}
+    }
+    if let Ok(run) = run(given) {
+        order_points::note(coverage, given, &run);
+        write_points::note(coverage, &run, &answer.findings);
+        clash_points::note(coverage, &run, answer);
+    }
+}
+
+fn note_records(coverage: &mut Coverage, trace: &[u8], refused: bool) {
+    let mut reader = RecordReader::new(trace);
+    let mut player = Player::default();
+    let (mut records, mut writes) = (0, 0);
+    while let Ok(Some(Ok(record))) = reader.next_record() {
+        records += 1;
+        let answer = player.answer(&record);
+        match record {
+            Record::HubAddress { .. } => {}
+            Record::Write { offset, values } => {
+                writes += 1;
+                note_burst(coverage, offset, values.len());
+            }
+            _ => coverage.note("a trace with records that change no register"),
+        }
+        if records > 1 && matches!(answer, Played::Refused(_)) {
+            coverage.note("a trace with a refused question or frame");
+        }
+    }
+    if refused && writes > 0 {
+        coverage.note("a trace refused 13 after writes");
+    }
+    if !refused && records == 1 {
+        coverage.note("a trace of the hub record alone");
+    }
+}
+
+fn note_burst(coverage: &mut Coverage, first: u8, count: usize) {
+    if usize::from(first) + count > 256 {
+        coverage.note("a burst over FF to 00");
+    }
+    let place = usize::from(0x4Cu8.wrapping_sub(first));
+    if place > 0 && place + 1 < count {
+        coverage.note("a burst over 4C");
+    }
+}

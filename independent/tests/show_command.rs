@@ -1,0 +1,64 @@
+//! The commands `show` and `check`: what they print, and their exit status.
+
+use std::path::Path;
+use std::process::Command;
+
+/// Standard output, whether standard error has something, and the status.
+fn call(arguments: &[&str]) -> (String, bool, i32) {
+    let root = Path::new(env!("CARGO_MANIFEST_DIR")).join("..");
+    let output = Command::new(env!("CARGO_BIN_EXE_independent"))
+        .args(arguments)
+        .current_dir(root)
+        .output()
+        .unwrap();
+    let text = String::from_utf8(output.stdout).unwrap();
+    let status = output.status.code().unwrap();
+    (text, !output.stderr.is_empty(), status)
+}
+
+#[test]
+fn both_commands_print_the_same_object() {
+    let (right, wrong) = ("samples/weighbridge.script", "samples/wrong_page.script");
+    let shown = call(&["show", "--json", "3D", right]);
+    assert!(shown.0.starts_with("{\"hub\":\"3D\",\"writes\":21,") && shown.0.ends_with("]}\n"));
+    assert_eq!((shown.1, shown.2), (false, 0));
+    assert_eq!(call(&["check", "--json", "3d", right]), shown);
+    assert_eq!(call(&["show", "3D", right]), shown);
+    let shown = call(&["show", "--json", "3D", wrong]);
+    assert_eq!((shown.1, shown.2), (false, 0));
+    let checked = call(&["check", "--json", "3D", wrong]);
+    assert_eq!((&checked.0, checked.1, checked.2), (&shown.0, false, 1));
+    let trace = call(&["show", "--json", "samples/wrong_page.trace"]);
+    assert!(trace.0.contains("\"lines\":[7,12]"));
+    assert_eq!((trace.1, trace.2), (false, 0));
+}
+
+#[test]
+fn a_refusal_is_one_line_and_status_1() {
+    let trace = "samples/weighbridge.trace";
+    for command in ["show", "check"] {
+        let refused = call(&[command, "--json", "3D", trace]);
+        assert_eq!(refused, ("1 ! 14\n".into(), true, 1));
+        let refused = call(&[command, "--json", "78", "samples/weighbridge.script"]);
+        assert_eq!(refused, ("! 2\n".into(), true, 1));
+    }
+    let refused = call(&["show", "--json", "samples/weighbridge.script"]);
+    assert_eq!(refused, ("1 ! 13\n".into(), true, 1));
+    let refused = call(&["show", "/dev/null"]);
+    assert_eq!(refused, ("! 13\n".into(), true, 1));
+}
+
+#[test]
+fn a_wrong_call_is_status_2_and_a_missing_file_1() {
+    for arguments in [
+        &["show"][..],
+        &["show", "--json"],
+        &["check", "samples/weighbridge.trace"],
+        &["show", "3", "samples/weighbridge.script"],
+        &["show", "3D", "samples/weighbridge.script", "more"],
+    ] {
+        assert_eq!(call(arguments), (String::new(), true, 2), "{arguments:?}");
+    }
+    let missing = call(&["show", "--json", "3D", "samples/none.script"]);
+    assert_eq!(missing, (String::new(), true, 1));
+}
