@@ -14,5 +14,5 @@ abbrev pub restAt : List ℕ → Scan → Option (List ℕ)
 restAt line Failed = none
 restAt line (At place) = some (drop place line)
 
-abbrev pub valueAt : List ℕ → ValueScan → ValueAndRest
-valueAt line scan = record { value = scan .value; rest = restAt line (scan .next) }
+abbrev pub valueAndRestAt : List ℕ → ValueScan → ValueAndRest
+valueAndRestAt line scan = record { value = scan .value; rest = restAt line (scan .next) }

@@ -3,7 +3,7 @@ ghost use mathlib.Core.Path.{_≡_};
 ghost use mathlib.Core.Option.{some};
 ghost use Rattle.laws.specs.Texts.{ascii};
 ghost use Rattle.calls.specs.ScriptLines.{afterToken, valueRead, callIfEnded, callRead, scriptLineRead, callsOf};
-ghost use Rattle.calls.specs.Contracts.{restAt, valueAt};
+ghost use Rattle.calls.specs.Contracts.{restAt, valueAndRestAt};
 use scan::Scan;
 use scan::ValueScan;
 
@@ -19,7 +19,7 @@ pub enum ScriptLine {
 
 // The word, the bracket, and the first value.
 fn read_offset(line: &[u8]) -> ValueScan
-    ensures { λ r. ⌜ valueAt (now (line .entry)) r
+    ensures { λ r. ⌜ valueAndRestAt (now (line .entry)) r
         ≡ valueRead (afterToken (ascii "(") (afterToken (ascii "WriteI2C") (some (now (line .entry))))) ⌝ }
 {
     let word = scan::expect(line, Scan::At(0), b"WriteI2C");

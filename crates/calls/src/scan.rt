@@ -5,7 +5,7 @@ ghost use lib.ListN.{getD, drop};
 ghost use Rattle.calls.specs.Grammar.{isBlank, digitValue};
 ghost use Rattle.calls.specs.ScriptLines.{afterBlanks, afterPrefix, afterToken, digitsRead, valueRead};
 ghost use Rattle.calls.specs.ScriptLines.{scriptLineEnds};
-ghost use Rattle.calls.specs.Contracts.{restAt, valueAt};
+ghost use Rattle.calls.specs.Contracts.{restAt, valueAndRestAt};
 use crate::digit;
 
 // Where the reading of a line stands, or that the line has another shape.
@@ -81,7 +81,7 @@ fn digit_at(line: &[u8], at: usize) -> u8
 
 // One or two hex digits.
 fn read_digits(line: &[u8], at: usize) -> ValueScan
-    ensures { λ r. ⌜ valueAt (now (line .entry)) r ≡ digitsRead (some (drop at (now (line .entry)))) ⌝ }
+    ensures { λ r. ⌜ valueAndRestAt (now (line .entry)) r ≡ digitsRead (some (drop at (now (line .entry)))) ⌝ }
 {
     let high = digit_at(line, at);
     if 16 <= high {
@@ -105,7 +105,7 @@ fn read_digits(line: &[u8], at: usize) -> ValueScan
 
 // A value after spaces and tabs: 0x, and one or two hex digits.
 pub(crate) fn read_value(line: &[u8], scan: Scan) -> ValueScan
-    ensures { λ r. ⌜ valueAt (now (line .entry)) r ≡ valueRead (restAt (now (line .entry)) scan) ⌝ }
+    ensures { λ r. ⌜ valueAndRestAt (now (line .entry)) r ≡ valueRead (restAt (now (line .entry)) scan) ⌝ }
 {
     match expect(line, scan, b"0x") {
         Scan::Failed => ValueScan {

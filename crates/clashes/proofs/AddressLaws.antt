@@ -8,23 +8,25 @@ use Prim.Native.Nat.{ℕ, zero, suc, _+_, _<_}
 use native.Mathlib.Nat.{eq-or-lt-of-le, le-of-suc-le-suc}
 use native.Mathlib.Numerals.{add-one}
 use native.Mathlib.Omega.{arith}
-use borrow.Author.Tests.{eq-eqb, eqb-true, lt-ltb, ltb-true, ltb-false}
+use borrow.Author.Tests.{eq-eqb, eqb-true, lt-ltb, ltb-true, ltb-false, not-true}
 use lib.Dec.{eqb, ltb}
 use Rattle.laws.specs.Reply.{Reply, refusedWith, given}
 use Rattle.laws.proofs.Absurd.{zero-not-one}
+use Rattle.laws.proofs.Bools.{both}
 use Rattle.hub.specs.declared.Hub.{Hub}
 use Rattle.translation.specs.declared.PortDevice.{PortDevice}
 use Rattle.translation.specs.Translation.{Addressed, theHub, noDevice, found, addresseeOf, whoHearsWrite}
 use Rattle.clashes.specs.Channels.{isForwarded}
-use Rattle.clashes.specs.Addresses.{anyBehind, answerReaches, reaches, anyBelow, isReached, hasNoAddress}
-use Rattle.clashes.specs.Addresses.{Hearer, ReachesExact, SameAddressExact, ReachedMeans, ReachedExact}
+use Rattle.clashes.specs.Addresses.{anyBehind, answerReaches, addressReaches, anyBelow, isReached, hasNoAddress}
+use Rattle.clashes.specs.Addresses.{Hearer, AddressReachesExact, AddressSharedExact, ReachedMeans, ReachedExact}
+use Rattle.clashes.specs.Addresses.{NoAddressExact}
 use Rattle.clashes.proofs.TwoPorts.{two-only, two-every}
 
 module _ (hub : Hub) (address port : ℕ) {reply : Reply (Addressed (List PortDevice))}
     (e : reply ≡ whoHearsWrite hub address) where
-  pub reaches-by : answerReaches port reply ≡ reaches hub address port
-  unfolding reaches
-  reaches-by = rw e
+  pub address-reaches-by : answerReaches port reply ≡ addressReaches hub address port
+  unfolding addressReaches
+  address-reaches-by = rw e
 
 module _ (hub : Hub) (port : ℕ) where
   pub not-forwarded : isForwarded hub port ≡ false → hasNoAddress hub port ≡ false
@@ -65,12 +67,14 @@ behind-hit port (first ∷ devices) device (List·Memᴰ·tail m) e =
     go true h = refl
     go false h = h
 
-pub reaches-exact : ReachesExact
-unfolding reaches
-reaches-exact hub address port =
+pub address-reaches-exact : AddressReachesExact
+unfolding addressReaches
+address-reaches-exact hub address port =
     record {
       only = λ e. there (whoHearsWrite hub address) refl e;
-      every = λ h. rw (h .answer) (behind-hit port (h .devices) (h .device) (h .member) (h .behind));
+      every = λ h.
+          (let w = h .hears in
+          rw (w .answer) (behind-hit port (w .devices) (h .device) (w .member) (h .behind)));
     }
   where
     there : (reply : Reply (Addressed (List PortDevice))) → whoHearsWrite hub address ≡ reply
@@ -80,25 +84,29 @@ reaches-exact hub address port =
     there (given noDevice) r e = zero-not-one (cc)
     there (given (found devices)) r e =
         let f = behind-found port devices e in
-        record { devices = devices; answer = r; device = f .device; member = f .member; behind = f .behind }
+        record {
+          device = f .device;
+          hears = record { devices = devices; answer = r; member = f .member };
+          behind = f .behind;
+        }
 
-pub same-address-exact : SameAddressExact
-same-address-exact hub address =
+pub address-shared-exact : AddressSharedExact
+address-shared-exact hub address =
     record {
       only = λ e.
-          (let t = two-only (reaches hub address) e in
+          (let t = two-only (addressReaches hub address) e in
           record {
             low = t .low;
             high = t .high;
             rising = t .rising;
             within = t .within;
-            first = reaches-exact hub address (t .low) .only (t .first);
-            second = reaches-exact hub address (t .high) .only (t .second);
+            first = address-reaches-exact hub address (t .low) .only (t .first);
+            second = address-reaches-exact hub address (t .high) .only (t .second);
           });
       every = λ t.
-          two-every (reaches hub address) (t .low) (t .high) (t .rising) (t .within)
-          (reaches-exact hub address (t .low) .every (t .first))
-          (reaches-exact hub address (t .high) .every (t .second));
+          two-every (addressReaches hub address) (t .low) (t .high) (t .rising) (t .within)
+          (address-reaches-exact hub address (t .low) .every (t .first))
+          (address-reaches-exact hub address (t .high) .every (t .second));
     }
 
 -- a search that found one, that goes on, and that found none
@@ -142,17 +150,18 @@ module _ (test : ℕ → Bool) where
           let f = ih q in record { place = f .place; within = omega (arith, f .within); holds = f .holds }
 
 module _ (hub : Hub) (port : ℕ) where
-  pub reached-hit : (address : ℕ) → address < 128 → reaches hub address port ≡ true → isReached hub port ≡ true
+  pub reached-hit : (address : ℕ) → address < 128 → addressReaches hub address port ≡ true → isReached hub port ≡ true
   unfolding isReached
-  reached-hit address h t = any-hit (λ a. reaches hub a port) 128 address h t
+  reached-hit address h t = any-hit (λ a. addressReaches hub a port) 128 address h t
 
-  pub reached-none : (n : ℕ) → n ≡ 128 → anyBelow (λ a. reaches hub a port) n ≡ false → isReached hub port ≡ false
+  pub reached-none : (n : ℕ) → n ≡ 128 → anyBelow (λ a. addressReaches hub a port) n ≡ false
+      → isReached hub port ≡ false
   unfolding isReached
   reached-none n e q = rw e at q
 
   -- an address above 0x7F is refused, so it reaches no port
-  high : (address : ℕ) → 127 < address → reaches hub address port ≡ true → ⊥
-  unfolding reaches whoHearsWrite addresseeOf
+  high : (address : ℕ) → 127 < address → addressReaches hub address port ≡ true → ⊥
+  unfolding addressReaches whoHearsWrite addresseeOf
   high address h e = let q : _≡_ {A = Bool} false true = rw (lt-ltb 127 address h) at e in zero-not-one (cc)
 
   pub reached-means : ReachedMeans hub port
@@ -160,15 +169,46 @@ module _ (hub : Hub) (port : ℕ) where
   reached-means =
       record {
         only = λ e.
-            (let f = any-found (λ a. reaches hub a port) 128 e in
+            (let f = any-found (λ a. addressReaches hub a port) 128 e in
             record { address = f .place; reached = f .holds });
         every = λ r. go (r .address) (r .reached) (ltb 127 (r .address)) refl;
       }
     where
-      go : (address : ℕ) → reaches hub address port ≡ true → (b : Bool) → ltb 127 address ≡ b
-          → anyBelow (λ a. reaches hub a port) 128 ≡ true
+      go : (address : ℕ) → addressReaches hub address port ≡ true → (b : Bool) → ltb 127 address ≡ b
+          → anyBelow (λ a. addressReaches hub a port) 128 ≡ true
       go address t true q = absurd (high address (ltb-true 127 address q) t)
-      go address t false q = any-hit (λ a. reaches hub a port) 128 address (omega (arith, ltb-false 127 address q)) t
+      go address t false q =
+          any-hit (λ a. addressReaches hub a port) 128 address (omega (arith, ltb-false 127 address q)) t
 
 pub reached-exact : ReachedExact
 reached-exact hub port = reached-means hub port
+
+-- a port is reached exactly where a device behind it hears a write to some address
+module _ (hub : Hub) (port : ℕ) where
+  heard : (address : ℕ) → Hearer hub address port → isReached hub port ≡ true
+  heard address h =
+      reached-exact hub port .every
+      (record { address = address; reached = address-reaches-exact hub address port .every h })
+
+  unheard : ((address : ℕ) → Hearer hub address port → ⊥) → isReached hub port ≡ false
+  unheard none = go (isReached hub port) refl
+    where
+      go : (b : Bool) → isReached hub port ≡ b → b ≡ false
+      go false q = refl
+      go true q =
+          let a = reached-exact hub port .only q in
+          absurd (none (a .address) (address-reaches-exact hub (a .address) port .only (a .reached)))
+
+pub no-address-exact : NoAddressExact
+unfolding hasNoAddress
+no-address-exact hub port =
+    record {
+      only = λ e.
+          (let b = both (isForwarded hub port) (not (isReached hub port)) e in
+          let unreached : isReached hub port ≡ false = not-true (isReached hub port) (b .1) in
+          record {
+            forwarded = b .0;
+            unheard = λ address h. (let r = heard hub port address h in zero-not-one (cc));
+          });
+      every = λ n. rw (n .forwarded, unheard hub port (n .unheard));
+    }

@@ -12,7 +12,7 @@ use Rattle.formats.specs.declared.Format.{Format}
 use Rattle.hub.specs.declared.Hub.{Hub}
 use Rattle.hub.specs.Routes.{PortRoute, off, output, routeOf}
 use Rattle.clashes.specs.Channels.{forwards, isForwarded, channelOf, isChannel, leavesBy, leavesOn}
-use Rattle.clashes.specs.Channels.{RouteTo, LeavesOnExact, SameChannelExact}
+use Rattle.clashes.specs.Channels.{RouteTo, LeavesOnExact, ChannelSharedExact}
 use Rattle.clashes.proofs.TwoPorts.{two-only, two-every}
 
 module _ (csi vc out channel : ℕ) where
@@ -54,8 +54,8 @@ leaves-on-exact hub format out channel port =
           vc = eqb-true (channelOf format raw10 raw12) channel (b .1);
         }
 
-pub same-channel-exact : SameChannelExact
-same-channel-exact hub format out channel =
+pub channel-shared-exact : ChannelSharedExact
+channel-shared-exact hub format out channel =
     record {
       only = λ e.
           (let t = two-only (leavesOn hub format out channel) e in

@@ -2,13 +2,14 @@
 -- Assumes nothing.
 use mathlib.Core.Path.{_≡_}
 use mathlib.Core.Bool.{Bool, true, false, cond, not, _&&_}
-use mathlib.Core.List.{List, [], _∷_, List·Memᴰ}
+use mathlib.Core.List.{List, [], _∷_}
 use Prim.Native.Nat.{ℕ, zero, suc, _<_}
 use lib.Dec.{eqb}
 use Rattle.laws.specs.Reply.{Reply, refusedWith, given}
 use Rattle.hub.specs.declared.Hub.{Hub}
 use Rattle.translation.specs.declared.PortDevice.{PortDevice}
 use Rattle.translation.specs.Translation.{Addressed, theHub, noDevice, found, whoHearsWrite}
+use Rattle.translation.specs.Laws.{HearsWrite}
 use Rattle.ports.specs.PortMasks.{portMask, severalPorts}
 use Rattle.clashes.specs.Channels.{isForwarded}
 
@@ -25,8 +26,8 @@ answerReaches port (given noDevice) = false
 answerReaches port (given (found devices)) = anyBehind port devices
 
 -- a write to the address reaches the port: a device behind the port hears it
-unfoldable pub reaches : Hub → ℕ → ℕ → Bool
-reaches hub address port = answerReaches port (whoHearsWrite hub address)
+unfoldable pub addressReaches : Hub → ℕ → ℕ → Bool
+addressReaches hub address port = answerReaches port (whoHearsWrite hub address)
 
 -- the test holds of a number below n
 unfoldable pub anyBelow : (ℕ → Bool) → ℕ → Bool
@@ -35,7 +36,7 @@ anyBelow test (suc n) = cond (test n) true (anyBelow test n)
 
 -- a write to one of the 128 addresses of the bus reaches the port
 unfoldable pub isReached : Hub → ℕ → Bool
-isReached hub port = anyBelow (λ address. reaches hub address port) 128
+isReached hub port = anyBelow (λ address. addressReaches hub address port) 128
 
 -- `no-address`: "a forwarded port of which no device hears a write to any address"
 unfoldable pub hasNoAddress : Hub → ℕ → Bool
@@ -43,23 +44,21 @@ hasNoAddress hub port = isForwarded hub port && not (isReached hub port)
 
 -- a device behind the port that hears a write to the address
 pub record Hearer (hub : Hub) (address port : ℕ) : Type 0 where
-  pub devices : List PortDevice
-  pub answer : whoHearsWrite hub address ≡ given (found devices)
   pub device : PortDevice
-  pub member : List·Memᴰ device devices
+  pub hears : HearsWrite hub address device
   pub behind : device .port ≡ port
 
 -- a write reaches a port exactly where a device behind it hears the write
-pub record ReachesMeans (hub : Hub) (address port : ℕ) : Type 0 where
-  pub only : reaches hub address port ≡ true → Hearer hub address port
-  pub every : Hearer hub address port → reaches hub address port ≡ true
+pub record AddressReachesMeans (hub : Hub) (address port : ℕ) : Type 0 where
+  pub only : addressReaches hub address port ≡ true → Hearer hub address port
+  pub every : Hearer hub address port → addressReaches hub address port ≡ true
 
-abbrev pub ReachesExact : Type 0
-ReachesExact = (hub : Hub) (address port : ℕ) → ReachesMeans hub address port
+abbrev pub AddressReachesExact : Type 0
+AddressReachesExact = (hub : Hub) (address port : ℕ) → AddressReachesMeans hub address port
 
 -- `same-address`: "a write to an address reaches two or more ports"
-abbrev pub sameAddress : Hub → ℕ → Bool
-sameAddress hub address = severalPorts (portMask (reaches hub address))
+abbrev pub addressShared : Hub → ℕ → Bool
+addressShared hub address = severalPorts (portMask (addressReaches hub address))
 
 -- two ports, and a device behind each that hears a write to the address
 pub record TwoHearers (hub : Hub) (address : ℕ) : Type 0 where
@@ -71,17 +70,17 @@ pub record TwoHearers (hub : Hub) (address : ℕ) : Type 0 where
   pub second : Hearer hub address high
 
 -- a write reaches two or more ports exactly where there are two such
-pub record SameAddressMeans (hub : Hub) (address : ℕ) : Type 0 where
-  pub only : sameAddress hub address ≡ true → TwoHearers hub address
-  pub every : TwoHearers hub address → sameAddress hub address ≡ true
+pub record AddressSharedMeans (hub : Hub) (address : ℕ) : Type 0 where
+  pub only : addressShared hub address ≡ true → TwoHearers hub address
+  pub every : TwoHearers hub address → addressShared hub address ≡ true
 
-abbrev pub SameAddressExact : Type 0
-SameAddressExact = (hub : Hub) (address : ℕ) → SameAddressMeans hub address
+abbrev pub AddressSharedExact : Type 0
+AddressSharedExact = (hub : Hub) (address : ℕ) → AddressSharedMeans hub address
 
 -- an address that reaches the port
 pub record AddressOf (hub : Hub) (port : ℕ) : Type 0 where
   pub address : ℕ
-  pub reached : reaches hub address port ≡ true
+  pub reached : addressReaches hub address port ≡ true
 
 -- a port is reached exactly where some address, of any size, reaches it
 pub record ReachedMeans (hub : Hub) (port : ℕ) : Type 0 where
@@ -90,3 +89,16 @@ pub record ReachedMeans (hub : Hub) (port : ℕ) : Type 0 where
 
 abbrev pub ReachedExact : Type 0
 ReachedExact = (hub : Hub) (port : ℕ) → ReachedMeans hub port
+
+-- "a forwarded port of which no device hears a write to any address", of any size
+pub record NoAddress (hub : Hub) (port : ℕ) : Type 0 where
+  pub forwarded : isForwarded hub port ≡ true
+  pub unheard : (address : ℕ) → Hearer hub address port → ⊥
+
+-- every such port is found, and nothing else is
+pub record NoAddressMeans (hub : Hub) (port : ℕ) : Type 0 where
+  pub only : hasNoAddress hub port ≡ true → NoAddress hub port
+  pub every : NoAddress hub port → hasNoAddress hub port ≡ true
+
+abbrev pub NoAddressExact : Type 0
+NoAddressExact = (hub : Hub) (port : ℕ) → NoAddressMeans hub port

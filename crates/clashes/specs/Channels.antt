@@ -54,8 +54,8 @@ abbrev pub LeavesOnExact : Type 0
 LeavesOnExact = (hub : Hub) (format : Format) (out channel port : ℕ) → LeavesOnMeans hub format out channel port
 
 -- `same-channel`: "two or more forwarded ports share an output and a RAW10 channel, or an output and a RAW12 channel"
-abbrev pub sameChannel : Hub → Format → ℕ → ℕ → Bool
-sameChannel hub format out channel = severalPorts (portMask (leavesOn hub format out channel))
+abbrev pub channelShared : Hub → Format → ℕ → ℕ → Bool
+channelShared hub format out channel = severalPorts (portMask (leavesOn hub format out channel))
 
 -- two ports whose routes are to this output and channel
 pub record TwoRoutes (hub : Hub) (format : Format) (out channel : ℕ) : Type 0 where
@@ -67,9 +67,9 @@ pub record TwoRoutes (hub : Hub) (format : Format) (out channel : ℕ) : Type 0 
   pub second : RouteTo hub format out channel high
 
 -- ports share an output and channel exactly where there are two such
-pub record SameChannelMeans (hub : Hub) (format : Format) (out channel : ℕ) : Type 0 where
-  pub only : sameChannel hub format out channel ≡ true → TwoRoutes hub format out channel
-  pub every : TwoRoutes hub format out channel → sameChannel hub format out channel ≡ true
+pub record ChannelSharedMeans (hub : Hub) (format : Format) (out channel : ℕ) : Type 0 where
+  pub only : channelShared hub format out channel ≡ true → TwoRoutes hub format out channel
+  pub every : TwoRoutes hub format out channel → channelShared hub format out channel ≡ true
 
-abbrev pub SameChannelExact : Type 0
-SameChannelExact = (hub : Hub) (format : Format) (out channel : ℕ) → SameChannelMeans hub format out channel
+abbrev pub ChannelSharedExact : Type 0
+ChannelSharedExact = (hub : Hub) (format : Format) (out channel : ℕ) → ChannelSharedMeans hub format out channel

@@ -4,7 +4,7 @@ ghost use mathlib.Core.Bool.{true, cond};
 ghost use lib.Dec.{eqb};
 ghost use Rattle.translation.specs.Translation.{devicesOf};
 ghost use Rattle.ports.specs.PortMasks.{portMask};
-ghost use Rattle.clashes.specs.Addresses.{anyBehind, reaches, isReached, hasNoAddress};
+ghost use Rattle.clashes.specs.Addresses.{anyBehind, addressReaches, isReached, hasNoAddress};
 use crate::channels;
 use hub::Hub;
 use translation::Devices;
@@ -37,8 +37,8 @@ fn any_behind(devices: Devices, port: u8) -> bool
 }
 
 // Whether a write to an address reaches a port.
-pub fn reaches(hub: Hub, address: u8, port: u8) -> bool
-    ensures { λ r. ⌜ r ≡ reaches hub address port ⌝ }
+pub fn address_reaches(hub: Hub, address: u8, port: u8) -> bool
+    ensures { λ r. ⌜ r ≡ addressReaches hub address port ⌝ }
 {
     match translation::who_hears_write(hub, address) {
         WriteAnswer::AddressAbove7F => false,
@@ -49,14 +49,14 @@ pub fn reaches(hub: Hub, address: u8, port: u8) -> bool
 }
 
 // The ports that a write to an address reaches, as a mask.
-pub fn ports_reached(hub: Hub, address: u8) -> u8
-    ensures { λ r. ⌜ r ≡ portMask (reaches hub address) ⌝ }
+pub fn ports_of_address(hub: Hub, address: u8) -> u8
+    ensures { λ r. ⌜ r ≡ portMask (addressReaches hub address) ⌝ }
 {
-    ports::mask_of(
-        reaches(hub, address, 0),
-        reaches(hub, address, 1),
-        reaches(hub, address, 2),
-        reaches(hub, address, 3),
+    ports::mask_of_four(
+        address_reaches(hub, address, 0),
+        address_reaches(hub, address, 1),
+        address_reaches(hub, address, 2),
+        address_reaches(hub, address, 3),
     )
 }
 
@@ -66,7 +66,7 @@ pub fn is_reached(hub: Hub, port: u8) -> bool
 {
     let mut address: u8 = 0;
     while address < 128 {
-        if reaches(hub, address, port) {
+        if address_reaches(hub, address, port) {
             return true;
         }
         address += 1;
@@ -88,7 +88,7 @@ pub fn has_no_address(hub: Hub, port: u8) -> bool
 pub fn ports_without_address(hub: Hub) -> u8
     ensures { λ r. ⌜ r ≡ portMask (hasNoAddress hub) ⌝ }
 {
-    ports::mask_of(
+    ports::mask_of_four(
         has_no_address(hub, 0),
         has_no_address(hub, 1),
         has_no_address(hub, 2),

@@ -54,7 +54,7 @@ pub fn leaves_on(hub: Hub, format: Format, output: u8, channel: u8, port: u8) ->
 pub fn ports_on(hub: Hub, format: Format, output: u8, channel: u8) -> u8
     ensures { λ r. ⌜ r ≡ portMask (leavesOn hub format output channel) ⌝ }
 {
-    ports::mask_of(
+    ports::mask_of_four(
         leaves_on(hub, format, output, channel, 0),
         leaves_on(hub, format, output, channel, 1),
         leaves_on(hub, format, output, channel, 2),

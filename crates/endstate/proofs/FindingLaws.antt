@@ -4,26 +4,17 @@ use mathlib.Core.Path.{_≡_, refl}
 use mathlib.Core.Bool.{Bool, true, false, cond}
 use mathlib.Core.List.{List, []}
 use mathlib.Core.Logic.{_⊎_, inl, inr}
-use Prim.Native.Nat.{ℕ}
+use Prim.Native.Nat.{ℕ, _≤_}
+use native.Mathlib.Omega.{arith}
+use lib.ListN.{length}
 use Rattle.laws.proofs.Absurd.{zero-not-one}
 use Rattle.ports.specs.PortMasks.{severalPorts}
-use Rattle.endstate.specs.declared.findings.Grade.{Grade}
 use Rattle.endstate.specs.declared.findings.Grade.the-variants.{NoFinding, Meant, Wrong}
 use Rattle.endstate.specs.RisingLines.{risingLines, oneLine, OneLine}
-use Rattle.endstate.specs.Findings.{Finding, gradeBy, sharedBy, isGraded, SharedMeans, EverySharing}
+use Rattle.endstate.specs.LineRows.{RowHas}
+use Rattle.endstate.specs.Findings.{gradeBy, sharedBy, isGraded, SharedMeans, EverySharing}
+use Rattle.endstate.proofs.LineRows.{row-holds}
 use Rattle.endstate.proofs.OneLine.{one-line-exact}
-
-module _ (ports : ℕ) (origins : List ℕ) (asked : Bool) {lines : List ℕ} where
-  pub shared-none : severalPorts ports ≡ false → lines ≡ []
-      → _≡_ {A = Finding} (record { grade = NoFinding; ports = 0; lines = lines }) (sharedBy ports origins asked)
-  unfolding sharedBy
-  shared-none e l = rw (e, l)
-
-  pub shared-some : {grade : Grade} → severalPorts ports ≡ true → grade ≡ gradeBy origins asked
-      → lines ≡ risingLines origins
-      → _≡_ {A = Finding} (record { grade = grade; ports = ports; lines = lines }) (sharedBy ports origins asked)
-  unfolding sharedBy
-  shared-some e g l = rw (e, g, l)
 
 -- meant exactly where it is asked for, or all origins are one line
 module _ (origins : List ℕ) where
@@ -72,3 +63,13 @@ module _ (mask : ℕ) (origins : List ℕ) (asked : Bool) where
 
 pub every-sharing : EverySharing
 every-sharing mask origins asked = shared-means mask origins asked (severalPorts mask) refl
+
+-- all its lines have their place in a row
+module _ (mask : ℕ) (origins : List ℕ) (asked : Bool) (few : length origins ≤ 12) where
+  pub shared-held : RowHas (sharedBy mask origins asked .lines)
+  unfolding sharedBy risingLines
+  shared-held = go (severalPorts mask) refl
+    where
+      go : (b : Bool) → severalPorts mask ≡ b → RowHas (sharedBy mask origins asked .lines)
+      go true e = rw e (row-holds origins few)
+      go false e = rw e (row-holds [] (omega arith))

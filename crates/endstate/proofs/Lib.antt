@@ -1,9 +1,12 @@
 pub mod RisingLines
-pub mod ArrayPlaces
+pub mod LineRows
 pub mod OneLine
+pub mod GatheringLaws
 pub mod FindingLaws
 pub mod ChannelLaws
 pub mod SharedChannels
 pub mod AddressLaws
 pub mod SharedAddresses
 pub mod UnsetLaws
+pub mod WrongLaws
+pub mod Examples

@@ -5,20 +5,17 @@ use mathlib.Core.Bool.{Bool, true, false, cond, not, _&&_}
 use mathlib.Core.List.{List, [], _∷_, List·Memᴰ, List·Memᴰ·head, List·Memᴰ·tail, List·Memᴰ·cases-cons}
 use mathlib.Core.List.{List·Memᴰ·eq-of-singleton}
 use mathlib.Core.Logic.{⊎-elim}
-use Prim.Native.Nat.{ℕ, _≤_, _<_}
+use Prim.Native.Nat.{ℕ}
 use native.Mathlib.Omega.{arith}
-use borrow.Author.Tests.{eq-eqb, ne-eqb, eqb-true, eqb-false, not-true, ltb-true, ltb-false}
-use lib.Dec.{eqb, ltb}
-use lib.ListN.{length, take}
-use lib.Seq.{length-take-le, take-all}
+use borrow.Author.Tests.{eq-eqb, ne-eqb, eqb-true, eqb-false, not-true}
+use lib.Dec.{eqb}
+use lib.ListN.{length}
 use Rattle.laws.proofs.Absurd.{zero-not-one}
 use Rattle.laws.proofs.Bools.{both}
-use Rattle.endstate.specs.declared.lines.Lines.{Lines}
-use Rattle.endstate.specs.declared.gathering.Gathered.{Gathered}
-use Rattle.endstate.specs.RisingLines.{inPlace, withLine, risingLines, linesOf, allAre, oneLine, OneLine}
+use Rattle.endstate.specs.RisingLines.{inPlace, withLine, risingLines, allAre, oneLine, OneLine}
 use Rattle.endstate.specs.RisingLines.{OneLineExact}
-use Rattle.endstate.specs.Gathering.{someUnset, Gathers, gatheredOne}
-use Rattle.endstate.proofs.RisingLines.{lines-mean, one-more}
+use Rattle.endstate.specs.Gathering.{someUnset}
+use Rattle.endstate.proofs.RisingLines.{lines-mean}
 
 all-are-only : (line : ℕ) (numbers : List ℕ) → allAre line numbers ≡ true → (number : ℕ) → List·Memᴰ number numbers
     → number ≡ line
@@ -104,7 +101,7 @@ module _ (numbers : List ℕ) (all-set : someUnset numbers ≡ false) where
       }
   one-counted (x ∷ y ∷ xs) r e = absurd (omega arith)
 
-abbrev counted-one : List ℕ → Bool
+abbrev pub counted-one : List ℕ → Bool
 counted-one numbers = not (someUnset numbers) && eqb (length (risingLines numbers)) 1
 
 one-line-counted : (numbers : List ℕ) → oneLine numbers ≡ true → counted-one numbers ≡ true
@@ -115,7 +112,7 @@ one-line-counted (x ∷ xs) e =
     let is-line = eqb-false x 0 (not-true (eqb x 0) (b .0)) in
     rw (none-unset x is-line xs (b .1), one-left x is-line xs (b .1))
 
-counted-is-one : (numbers : List ℕ) → counted-one numbers ≡ oneLine numbers
+pub counted-is-one : (numbers : List ℕ) → counted-one numbers ≡ oneLine numbers
 counted-is-one numbers = go (counted-one numbers) refl (oneLine numbers) refl
   where
     go : (a : Bool) → counted-one numbers ≡ a → (b : Bool) → oneLine numbers ≡ b → a ≡ b
@@ -127,36 +124,3 @@ counted-is-one numbers = go (counted-one numbers) refl (oneLine numbers) refl
         let one = one-counted numbers (not-true (someUnset numbers) (b .0)) (risingLines numbers) refl
         (eqb-true (length (risingLines numbers)) 1 (b .1)) in
         sym (one-line-every numbers one) ∙ q
-
--- what is gathered
-pub gathers-none : {gathered : Gathered} → (linesOf (gathered .lines) ≡ []) × (gathered .unset ≡ false)
-    → Gathers [] gathered
-unfolding risingLines someUnset
-gathers-none e = record { lines = e .0; unset = e .1 }
-
-module _ (numbers : List ℕ) {gathered : Gathered} (g : Gathers numbers gathered) where
-  pub gathered-one : gatheredOne gathered ≡ oneLine numbers
-  gathered-one = rw (g .unset, g .lines) (counted-is-one numbers)
-
-  pub gathers-more : (number : ℕ) {put : ℕ} {after : Gathered} → put ≡ number → length numbers < 12
-      → (linesOf (after .lines) ≡ take 12 (withLine put (linesOf (gathered .lines))))
-      × (after .unset ≡ cond (eqb put 0) true (gathered .unset)) → Gathers (number ∷ numbers) after
-  unfolding someUnset
-  gathers-more number {put} e h after =
-      let lines = rw e at (after .0) in
-      let unset = rw e at (after .1) in
-      record { lines = one-more number numbers h (g .lines) lines; unset = unset ∙ rw (g .unset) }
-
--- there is one line where the count says one
-pub counted-by : (lines : Lines) → length (lines .numbers) ≡ 12
-    → eqb (lines .count) 1 ≡ eqb (length (linesOf lines)) 1
-counted-by lines size = go (ltb 12 (lines .count)) refl
-  where
-    go : (b : Bool) → ltb 12 (lines .count) ≡ b → eqb (lines .count) 1 ≡ eqb (length (linesOf lines)) 1
-    go true q =
-        let more : length (lines .numbers) ≤ lines .count = omega (arith, ltb-true 12 (lines .count) q) in
-        let many : lines .count ≡ 1 → ⊥ = λ e. omega (arith, ltb-true 12 (lines .count) q) in
-        rw (take-all (lines .count) (lines .numbers) more, size, ne-eqb (lines .count) 1 many)
-    go false q =
-        let within : lines .count ≤ length (lines .numbers) = omega (arith, ltb-false 12 (lines .count) q) in
-        rw (length-take-le (lines .count) (lines .numbers) within)

@@ -8,8 +8,7 @@ use Prim.Native.Nat.{ℕ, _+_, _≤_, _<_}
 use native.Mathlib.Omega.{arith}
 use borrow.Author.Tests.{eqb-true, eqb-false, ltb-true, ltb-false}
 use lib.Dec.{eqb, ltb}
-use lib.ListN.{length, take}
-use lib.Seq.{take-all}
+use lib.ListN.{length}
 use Rattle.endstate.specs.RisingLines.{lesserOf, greaterOf, inPlace, withLine, risingLines}
 use Rattle.endstate.specs.RisingLines.{RisesAbove, LinesMean, EveryLine}
 
@@ -143,12 +142,3 @@ lines-mean numbers =
 
 pub every-line : EveryLine
 every-line = lines-mean
-
--- where there is a place for it, one line more is one number more
-module _ (number : ℕ) (numbers : List ℕ) {before after : List ℕ} where
-  pub one-more : length numbers < 12 → before ≡ risingLines numbers → after ≡ take 12 (withLine number before)
-      → after ≡ risingLines (number ∷ numbers)
-  unfolding risingLines
-  one-more h e q =
-      let room : length (risingLines (number ∷ numbers)) ≤ 12 = omega (arith, few (number ∷ numbers)) in
-      q ∙ rw e (take-all 12 (risingLines (number ∷ numbers)) room)

@@ -10,38 +10,18 @@ use lib.Dec.{lit<}
 use Rattle.laws.proofs.Absurd.{zero-not-one}
 use Rattle.formats.specs.declared.Format.{Format}
 use Rattle.hub.specs.declared.Hub.{Hub}
-use Rattle.ports.specs.PortMasks.{portMask, severalPorts, TwoPorts}
-use Rattle.ports.proofs.PortMasks.{mask-bits, several-means-two}
+use Rattle.ports.specs.PortMasks.{portMask}
 use Rattle.origins.specs.declared.RegistersWithOrigins.{RegistersWithOrigins}
 use Rattle.origins.specs.Origins.{portRegister}
 use Rattle.origins.specs.KeptOrigins.{keptNumber}
-use Rattle.clashes.specs.Channels.{leavesOn}
-use Rattle.clashes.proofs.ChannelLaws.{leaves-on-exact}
+use Rattle.clashes.specs.Channels.{leavesOn, channelShared}
+use Rattle.clashes.proofs.ChannelLaws.{leaves-on-exact, channel-shared-exact}
+use Rattle.endstate.specs.LineRows.{RowHas}
 use Rattle.endstate.specs.Findings.{isFound}
 use Rattle.endstate.specs.Channels.{ifIn, portNumbers, identifierRegister, asksForLines, channelOrigins}
-use Rattle.endstate.specs.Channels.{sameChannel, TwoRoutes, RouteOrigin, SameChannelExact}
-use Rattle.endstate.proofs.FindingLaws.{every-sharing}
-
--- two ports of a mask, by what it is the mask of
-module _ (holds : ℕ → Bool) where
-  pub two-hold : (t : TwoPorts (portMask holds)) → (holds (t .low) ≡ true) × (holds (t .high) ≡ true)
-  two-hold t =
-      let low : t .low < 4 = omega (arith, t .rising, t .within) in (
-        sym (mask-bits holds .bits (t .low) low) ∙ t .first,
-        sym (mask-bits holds .bits (t .high) (t .within)) ∙ t .second,
-      )
-
-  pub two-of : (low high : ℕ) → low < high → high < 4 → holds low ≡ true → holds high ≡ true
-      → TwoPorts (portMask holds)
-  two-of low high rising within first second =
-      record {
-        low = low;
-        high = high;
-        rising = rising;
-        within = within;
-        first = mask-bits holds .bits low (omega arith) ∙ first;
-        second = mask-bits holds .bits high within ∙ second;
-      }
+use Rattle.endstate.specs.Channels.{sameChannel, RouteOrigin, SameChannelExact}
+use Rattle.endstate.proofs.FindingLaws.{every-sharing, shared-held}
+use Rattle.endstate.proofs.ChannelLaws.{four-at-most}
 
 -- a number that one port more adds
 module _ {number : ℕ} where
@@ -106,33 +86,12 @@ module _ (hub : Hub) (state : RegistersWithOrigins) (format : Format) (out chann
   abbrev holds : ℕ → Bool
   holds = leavesOn hub format out channel
 
-  found-is : isFound (sameChannel hub state format out channel) ≡ severalPorts (portMask holds)
+  found-is : isFound (sameChannel hub state format out channel) ≡ channelShared hub format out channel
   unfolding sameChannel
   found-is =
       every-sharing (portMask holds) (channelOrigins hub state format out channel)
       (asksForLines (hub .registers) out)
       .found
-
-  channel-only : isFound (sameChannel hub state format out channel) ≡ true → TwoRoutes hub format out channel
-  channel-only e =
-      let t = several-means-two (portMask holds) .only (sym found-is ∙ e) in
-      let h = two-hold holds t in
-      record {
-        low = t .low;
-        high = t .high;
-        rising = t .rising;
-        within = t .within;
-        first = leaves-on-exact hub format out channel (t .low) .only (h .0);
-        second = leaves-on-exact hub format out channel (t .high) .only (h .1);
-      }
-
-  channel-every : TwoRoutes hub format out channel → isFound (sameChannel hub state format out channel) ≡ true
-  channel-every t =
-      found-is
-      ∙ several-means-two (portMask holds) .every
-      (two-of holds (t .low) (t .high) (t .rising) (t .within)
-      (leaves-on-exact hub format out channel (t .low) .every (t .first))
-      (leaves-on-exact hub format out channel (t .high) .every (t .second)))
 
   abbrev own : ℕ → ℕ
   own port = keptNumber state (portRegister port (identifierRegister format))
@@ -154,11 +113,19 @@ module _ (hub : Hub) (state : RegistersWithOrigins) (format : Format) (out chann
       numbers-every holds own number (r .port) (r .within)
       (leaves-on-exact hub format out channel (r .port) .every (r .route)) (r .origin)
 
+  row-held : RowHas (sameChannel hub state format out channel .lines)
+  unfolding sameChannel
+  row-held =
+      let few = four-at-most holds own in
+      shared-held (portMask holds) (channelOrigins hub state format out channel) (asksForLines (hub .registers) out)
+      (omega (arith, few))
+
 pub same-channel-exact : SameChannelExact
 same-channel-exact hub state format out channel =
     record {
-      only = channel-only hub state format out channel;
-      every = channel-every hub state format out channel;
+      only = λ e. channel-shared-exact hub format out channel .only (sym (found-is hub state format out channel) ∙ e);
+      every = λ t. found-is hub state format out channel ∙ channel-shared-exact hub format out channel .every t;
       originOnly = origin-only hub state format out channel;
       originEvery = origin-every hub state format out channel;
+      held = row-held hub state format out channel;
     }

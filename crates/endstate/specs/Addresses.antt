@@ -6,7 +6,7 @@
 use mathlib.Core.Path.{_≡_}
 use mathlib.Core.Bool.{true, false}
 use mathlib.Core.List.{List, [], _∷_, _++_, List·Memᴰ}
-use Prim.Native.Nat.{ℕ, _+_, _<_}
+use Prim.Native.Nat.{ℕ, _+_}
 use Rattle.laws.specs.Reply.{Reply, refusedWith, given}
 use Rattle.registers.specs.RegisterMap.{BCC-CONFIG, SER-ID, SER-ALIAS-ID, TARGET-ID-0, TARGET-ALIAS-0}
 use Rattle.hub.specs.declared.Hub.{Hub}
@@ -18,9 +18,10 @@ use Rattle.ports.specs.PortMasks.{portMask}
 use Rattle.origins.specs.declared.RegistersWithOrigins.{RegistersWithOrigins}
 use Rattle.origins.specs.Origins.{portRegister}
 use Rattle.origins.specs.KeptOrigins.{keptNumber}
-use Rattle.clashes.specs.Addresses.{reaches, Hearer}
+use Rattle.clashes.specs.Addresses.{addressReaches, TwoHearers}
 use Rattle.endstate.specs.RisingLines.{risingLines}
-use Rattle.endstate.specs.Findings.{Finding, sharedBy, isFound}
+use Rattle.endstate.specs.LineRows.{RowHas}
+use Rattle.endstate.specs.Findings.{ClashFinding, sharedBy, isFound}
 
 -- a register of a device: the serializer's, or that of the target with its number, in a row of eight
 abbrev pub registerFor : Remote → ℕ → ℕ → ℕ
@@ -65,18 +66,13 @@ hearers (given (found devices)) = devices
 unfoldable pub addressLines : Hub → RegistersWithOrigins → ℕ → List ℕ
 addressLines hub state address = risingLines (devicesOrigins state (hearers (whoHearsWrite hub address)))
 
-unfoldable pub sameAddress : Hub → RegistersWithOrigins → ℕ → Finding
-sameAddress hub state address =
-    sharedBy (portMask (reaches hub address)) (aliasOrigins state (hearers (whoHearsWrite hub address))) false
+-- all of them have their place in a row
+abbrev pub AddressLinesHeld : Type 0
+AddressLinesHeld = (hub : Hub) (state : RegistersWithOrigins) (address : ℕ) → RowHas (addressLines hub state address)
 
--- two ports, each with a device that hears a write to the address
-pub record TwoHearers (hub : Hub) (address : ℕ) : Type 0 where
-  pub low : ℕ
-  pub high : ℕ
-  pub rising : low < high
-  pub within : high < 4
-  pub first : Hearer hub address low
-  pub second : Hearer hub address high
+unfoldable pub sameAddress : Hub → RegistersWithOrigins → ℕ → ClashFinding
+sameAddress hub state address =
+    sharedBy (portMask (addressReaches hub address)) (aliasOrigins state (hearers (whoHearsWrite hub address))) false
 
 -- a device of some, and the origin of its alias
 pub record AliasOrigin (state : RegistersWithOrigins) (devices : List PortDevice) (number : ℕ) : Type 0 where
@@ -84,8 +80,8 @@ pub record AliasOrigin (state : RegistersWithOrigins) (devices : List PortDevice
   pub member : List·Memᴰ device devices
   pub origin : aliasOrigin state device ≡ number
 
--- Every finding is there, and nothing else is; its origins are exactly those of the devices that hear the write. What
--- it says of them is `SharedMeans`.
+-- Every finding is there, and nothing else is; its origins are exactly those of the devices that hear the write, and
+-- all its lines have their place in a row. What it says of them is `SharedMeans`.
 pub record SameAddressMeans (hub : Hub) (state : RegistersWithOrigins) (address : ℕ) : Type 0 where
   pub only : isFound (sameAddress hub state address) ≡ true → TwoHearers hub address
   pub every : TwoHearers hub address → isFound (sameAddress hub state address) ≡ true
@@ -93,6 +89,7 @@ pub record SameAddressMeans (hub : Hub) (state : RegistersWithOrigins) (address 
       → AliasOrigin state (hearers (whoHearsWrite hub address)) number
   pub originEvery : (number : ℕ) → AliasOrigin state (hearers (whoHearsWrite hub address)) number
       → List·Memᴰ number (aliasOrigins state (hearers (whoHearsWrite hub address)))
+  pub held : RowHas (sameAddress hub state address .lines)
 
 abbrev pub SameAddressExact : Type 0
 SameAddressExact = (hub : Hub) (state : RegistersWithOrigins) (address : ℕ) → SameAddressMeans hub state address

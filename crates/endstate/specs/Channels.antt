@@ -11,16 +11,17 @@ use lib.Dec.{leb}
 use Rattle.formats.specs.declared.Format.{Format}
 use Rattle.formats.specs.declared.Format.the-variants.{Raw10, Raw12}
 use Rattle.registers.specs.declared.RegisterFile.{RegisterFile}
-use Rattle.registers.specs.RegisterMap.{FWD-CTL1, RAW10-ID, RAW12-ID}
+use Rattle.registers.specs.RegisterMap.{FWD-CTL1, FWD-CTL2, RAW10-ID, RAW12-ID}
 use Rattle.registers.specs.RegisterFiles.{sharedAt}
 use Rattle.hub.specs.declared.Hub.{Hub}
 use Rattle.ports.specs.PortMasks.{portMask}
 use Rattle.origins.specs.declared.RegistersWithOrigins.{RegistersWithOrigins}
 use Rattle.origins.specs.Origins.{sharedRegister, portRegister}
 use Rattle.origins.specs.KeptOrigins.{keptNumber}
-use Rattle.clashes.specs.Channels.{leavesOn, RouteTo}
+use Rattle.clashes.specs.Channels.{leavesOn, RouteTo, TwoRoutes}
 use Rattle.endstate.specs.declared.channels.PortLines.{PortLines}
-use Rattle.endstate.specs.Findings.{Finding, sharedBy, isFound}
+use Rattle.endstate.specs.LineRows.{RowHas}
+use Rattle.endstate.specs.Findings.{ClashFinding, sharedBy, isFound}
 
 -- "the lines that set 0x20, 0x70 and 0x71"
 unfoldable pub portLines : RegistersWithOrigins → ℕ → PortLines
@@ -44,9 +45,6 @@ unfoldable pub portNumbers : (ℕ → Bool) → (ℕ → ℕ) → List ℕ
 portNumbers holds number =
     ifIn (holds 0) (number 0) (ifIn (holds 1) (number 1) (ifIn (holds 2) (number 2) (ifIn (holds 3) (number 3) [])))
 
-abbrev pub FWD-CTL2 : ℕ
-FWD-CTL2 = 0x21
-
 -- "CSI0_SYNC_FWD in bits 3:2, CSI1_SYNC_FWD in 5:4"; there is no other output
 abbrev pub syncForwarding : RegisterFile → ℕ → ℕ
 syncForwarding file zero = sharedAt file FWD-CTL2 / 4 % 4
@@ -63,19 +61,10 @@ channelOrigins hub state format output channel =
     portNumbers (leavesOn hub format output channel)
     (λ port. keptNumber state (portRegister port (identifierRegister format)))
 
-unfoldable pub sameChannel : Hub → RegistersWithOrigins → Format → ℕ → ℕ → Finding
+unfoldable pub sameChannel : Hub → RegistersWithOrigins → Format → ℕ → ℕ → ClashFinding
 sameChannel hub state format output channel =
     sharedBy (portMask (leavesOn hub format output channel)) (channelOrigins hub state format output channel)
     (asksForLines (hub .registers) output)
-
--- two ports whose routes are to the output, with the channel for the format
-pub record TwoRoutes (hub : Hub) (format : Format) (out channel : ℕ) : Type 0 where
-  pub low : ℕ
-  pub high : ℕ
-  pub rising : low < high
-  pub within : high < 4
-  pub first : RouteTo hub format out channel low
-  pub second : RouteTo hub format out channel high
 
 -- a port with such a route, and the origin of its 0x70 or 0x71
 pub record RouteOrigin (hub : Hub) (state : RegistersWithOrigins) (format : Format) (out channel number : ℕ)
@@ -85,8 +74,8 @@ pub record RouteOrigin (hub : Hub) (state : RegistersWithOrigins) (format : Form
   pub route : RouteTo hub format out channel port
   pub origin : keptNumber state (portRegister port (identifierRegister format)) ≡ number
 
--- Every finding is there, and nothing else is; its origins are exactly those of such ports. What it says of them is
--- `SharedMeans`.
+-- Every finding is there, and nothing else is; its origins are exactly those of such ports, and all its lines have
+-- their place in a row. What it says of them is `SharedMeans`.
 pub record SameChannelMeans (hub : Hub) (state : RegistersWithOrigins) (format : Format) (out channel : ℕ)
     : Type 0 where
   pub only : isFound (sameChannel hub state format out channel) ≡ true → TwoRoutes hub format out channel
@@ -95,6 +84,7 @@ pub record SameChannelMeans (hub : Hub) (state : RegistersWithOrigins) (format :
       → RouteOrigin hub state format out channel number
   pub originEvery : (number : ℕ) → RouteOrigin hub state format out channel number
       → List·Memᴰ number (channelOrigins hub state format out channel)
+  pub held : RowHas (sameChannel hub state format out channel .lines)
 
 abbrev pub SameChannelExact : Type 0
 SameChannelExact =

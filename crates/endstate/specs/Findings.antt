@@ -9,15 +9,16 @@ use Rattle.ports.specs.PortMasks.{severalPorts}
 use Rattle.endstate.specs.declared.findings.Grade.{Grade}
 use Rattle.endstate.specs.declared.findings.Grade.the-variants.{NoFinding, Meant, Wrong}
 use Rattle.endstate.specs.declared.findings.Clash.{Clash}
-use Rattle.endstate.specs.RisingLines.{risingLines, linesOf, oneLine, OneLine}
+use Rattle.endstate.specs.RisingLines.{risingLines, oneLine, OneLine}
+use Rattle.endstate.specs.LineRows.{linesRow}
 
 -- a finding, with the mask of its ports and its lines
-pub record Finding : Type 0 where
+pub record ClashFinding : Type 0 where
   pub grade : Grade
   pub ports : ℕ
   pub lines : List ℕ
 
-abbrev pub nothingFound : Finding
+abbrev pub nothingFound : ClashFinding
 nothingFound = record { grade = NoFinding; ports = 0; lines = [] }
 
 -- "Meant, where all of these have one and the same line as origin, or" it is asked for; "else wrong"
@@ -25,15 +26,15 @@ abbrev pub gradeBy : List ℕ → Bool → Grade
 gradeBy origins asked = cond asked Meant (cond (oneLine origins) Meant Wrong)
 
 -- "two or more": what is found of the ports that share something, by the origins of what they share
-unfoldable pub sharedBy : ℕ → List ℕ → Bool → Finding
+unfoldable pub sharedBy : ℕ → List ℕ → Bool → ClashFinding
 sharedBy ports origins asked =
     cond (severalPorts ports)
     (record { grade = gradeBy origins asked; ports = ports; lines = risingLines origins })
     nothingFound
 
--- the finding that a value of the source is
-abbrev pub findingOf : Clash → Finding
-findingOf clash = record { grade = clash .grade; ports = clash .ports; lines = linesOf (clash .lines) }
+-- a finding as the source holds it
+abbrev pub clashOf : ClashFinding → Clash
+clashOf finding = record { grade = finding .grade; ports = finding .ports; lines = linesRow (finding .lines) }
 
 -- there is a finding
 abbrev pub isGraded : Grade → Bool
@@ -41,7 +42,7 @@ isGraded NoFinding = false
 isGraded Meant = true
 isGraded Wrong = true
 
-abbrev pub isFound : Finding → Bool
+abbrev pub isFound : ClashFinding → Bool
 isFound finding = isGraded (finding .grade)
 
 -- What a finding says. Its lines are those among the origins, which `EveryLine` says.

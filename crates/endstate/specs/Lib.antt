@@ -1,6 +1,9 @@
 pub mod RisingLines
-pub mod Gathering
+pub mod LineRows
 pub mod Findings
+pub mod Gathering
 pub mod Channels
 pub mod Addresses
 pub mod Unset
+pub mod Wrong
+pub mod Examples

@@ -5,8 +5,7 @@ use mathlib.Core.Bool.{Bool, true, false, cond, not, _&&_}
 use mathlib.Core.List.{List, [], _∷_, List·Memᴰ}
 use Prim.Native.Nat.{ℕ, _≤_, _<_}
 use lib.Dec.{eqb, ltb}
-use lib.ListN.{length, take}
-use Rattle.endstate.specs.declared.lines.Lines.{Lines}
+use lib.ListN.{length}
 
 abbrev pub lesserOf : ℕ → ℕ → ℕ
 lesserOf a b = cond (ltb a b) a b
@@ -29,10 +28,6 @@ withLine number lines = cond (eqb number 0) lines (inPlace number lines)
 unfoldable pub risingLines : List ℕ → List ℕ
 risingLines [] = []
 risingLines (number ∷ numbers) = withLine number (risingLines numbers)
-
--- the lines of a value of the source
-abbrev pub linesOf : Lines → List ℕ
-linesOf lines = take (lines .count) (lines .numbers)
 
 -- each number is above the one before, and the first is above `low`
 abbrev pub RisesAbove : ℕ → List ℕ → Type 0

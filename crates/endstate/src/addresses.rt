@@ -1,14 +1,14 @@
 // The lines that make devices hear an address, and the ports that one address reaches, with the lines of the aliases.
 ghost use mathlib.Core.Path.{_≡_};
 ghost use mathlib.Core.List.{List, _∷_, _++_};
-ghost use Prim.Native.Nat.{ℕ, _+_, _<_, _≤_};
-ghost use lib.ListN.{length};
+ghost use Prim.Native.Nat.{ℕ, _+_};
 ghost use Rattle.origins.specs.Origins.{portRegister};
 ghost use Rattle.origins.specs.KeptOrigins.{keptNumber};
 ghost use Rattle.translation.specs.Translation.{devicesOf, whoHearsWrite};
-ghost use Rattle.endstate.specs.RisingLines.{risingLines, linesOf};
-ghost use Rattle.endstate.specs.Gathering.{Gathers};
-ghost use Rattle.endstate.specs.Findings.{findingOf};
+ghost use Rattle.endstate.specs.RisingLines.{risingLines};
+ghost use Rattle.endstate.specs.LineRows.{linesRow};
+ghost use Rattle.endstate.specs.Gathering.{gatheredOf};
+ghost use Rattle.endstate.specs.Findings.{clashOf};
 ghost use Rattle.endstate.specs.Addresses.{registerOrigin, aliasOrigin, remoteOrigin, deviceOrigins};
 ghost use Rattle.endstate.specs.Addresses.{devicesOrigins, aliasOrigins, hearers, addressLines, sameAddress};
 use crate::findings::Clash;
@@ -20,6 +20,7 @@ use crate::lines::Lines;
 use clashes::addresses;
 use hub::Hub;
 use origins::RegistersWithOrigins;
+use registers::map;
 use translation::Devices;
 use translation::PortDevice;
 use translation::Remote;
@@ -58,29 +59,44 @@ fn register_origin(
 fn alias_origin(state: RegistersWithOrigins, device: PortDevice) -> u64
     ensures { λ r. ⌜ r ≡ aliasOrigin state device ⌝ }
 {
-    register_origin(state, device, 0x5C, 0x65)
+    register_origin(
+        state,
+        device,
+        map::SER_ALIAS_ID as u8,
+        map::TARGET_ALIAS_0 as u8,
+    )
 }
 
 // The origin of a device's remote address.
 fn remote_origin(state: RegistersWithOrigins, device: PortDevice) -> u64
     ensures { λ r. ⌜ r ≡ remoteOrigin state device ⌝ }
 {
-    register_origin(state, device, 0x5B, 0x5D)
+    register_origin(state, device, map::SER_ID as u8, map::TARGET_ID_0 as u8)
 }
 
 // The lines, and those of a device: pass-through, alias and remote address.
 fn with_device(lines: Lines, state: RegistersWithOrigins, device: PortDevice) -> Lines
-    ensures { λ r. ⌜ ((numbers : List ℕ) → length numbers + 3 ≤ 12 → linesOf lines ≡ risingLines numbers
-        → linesOf r ≡ risingLines (deviceOrigins state device ++ numbers)) ⌝ }
+    ensures { λ r. ⌜ ((numbers : List ℕ) → lines ≡ linesRow (risingLines numbers)
+        → r ≡ linesRow (risingLines (deviceOrigins state device ++ numbers))) ⌝ }
 {
     let with_remote = lines::with_line(lines, remote_origin(state, device));
     let with_alias = lines::with_line(with_remote, alias_origin(state, device));
-    lines::with_line(with_alias, origins::port_origin(state, device.port, 0x58))
+    lines::with_line(
+        with_alias,
+        origins::port_origin(state, device.port, map::BCC_CONFIG as u8),
+    )
+}
+
+// The lines of a device: those that set its pass-through, its alias and its remote address.
+pub fn device_lines(state: RegistersWithOrigins, device: PortDevice) -> Lines
+    ensures { λ r. ⌜ r ≡ linesRow (risingLines (deviceOrigins state device)) ⌝ }
+{
+    with_device(lines::no_lines(), state, device)
 }
 
 // The lines of some devices.
 fn lines_of_devices(state: RegistersWithOrigins, devices: Devices) -> Lines
-    ensures { λ r. ⌜ linesOf r ≡ risingLines (devicesOrigins state (devicesOf devices)) ⌝ }
+    ensures { λ r. ⌜ r ≡ linesRow (risingLines (devicesOrigins state (devicesOf devices))) ⌝ }
 {
     let none = lines::no_lines();
     match devices {
@@ -99,7 +115,7 @@ fn lines_of_devices(state: RegistersWithOrigins, devices: Devices) -> Lines
 
 // The lines of an address: those of each device that hears a write to it.
 pub fn address_lines(hub: Hub, state: RegistersWithOrigins, address: u8) -> Lines
-    ensures { λ r. ⌜ linesOf r ≡ addressLines hub state address ⌝ }
+    ensures { λ r. ⌜ r ≡ linesRow (addressLines hub state address) ⌝ }
 {
     match translation::who_hears_write(hub, address) {
         WriteAnswer::AddressAbove7F => lines::no_lines(),
@@ -111,15 +127,15 @@ pub fn address_lines(hub: Hub, state: RegistersWithOrigins, address: u8) -> Line
 
 // The origins, and that of a device's alias before them.
 fn with_alias(gathered: Gathered, state: RegistersWithOrigins, device: PortDevice) -> Gathered
-    ensures { λ r. ⌜ ((numbers : List ℕ) → length numbers < 12 → Gathers numbers gathered
-        → Gathers (aliasOrigin state device ∷ numbers) r) ⌝ }
+    ensures { λ r. ⌜ ((numbers : List ℕ) → gathered ≡ gatheredOf numbers
+        → r ≡ gatheredOf (aliasOrigin state device ∷ numbers)) ⌝ }
 {
     gathering::with_origin(gathered, alias_origin(state, device))
 }
 
 // The origins of the aliases of some devices.
 fn aliases_of_devices(state: RegistersWithOrigins, devices: Devices) -> Gathered
-    ensures { λ r. ⌜ Gathers (aliasOrigins state (devicesOf devices)) r ⌝ }
+    ensures { λ r. ⌜ r ≡ gatheredOf (aliasOrigins state (devicesOf devices)) ⌝ }
 {
     let none = gathering::nothing();
     match devices {
@@ -138,7 +154,7 @@ fn aliases_of_devices(state: RegistersWithOrigins, devices: Devices) -> Gathered
 
 // The origins of the aliases of the devices that hear a write to an address.
 fn aliases_that_match(hub: Hub, state: RegistersWithOrigins, address: u8) -> Gathered
-    ensures { λ r. ⌜ Gathers (aliasOrigins state (hearers (whoHearsWrite hub address))) r ⌝ }
+    ensures { λ r. ⌜ r ≡ gatheredOf (aliasOrigins state (hearers (whoHearsWrite hub address))) ⌝ }
 {
     match translation::who_hears_write(hub, address) {
         WriteAnswer::AddressAbove7F => gathering::nothing(),
@@ -150,9 +166,9 @@ fn aliases_that_match(hub: Hub, state: RegistersWithOrigins, address: u8) -> Gat
 
 // What is found of an address: the ports that a write to it reaches.
 pub fn same_address(hub: Hub, state: RegistersWithOrigins, address: u8) -> Clash
-    ensures { λ r. ⌜ findingOf r ≡ sameAddress hub state address ⌝ }
+    ensures { λ r. ⌜ r ≡ clashOf (sameAddress hub state address) ⌝ }
 {
-    let ports = addresses::ports_reached(hub, address);
+    let ports = addresses::ports_of_address(hub, address);
     let gathered = aliases_that_match(hub, state, address);
     grading::shared_by(ports, gathered, false)
 }

@@ -1,13 +1,12 @@
 // The lines of a port's route, and the ports that share a CSI output and virtual channel, with the lines that set it.
 ghost use mathlib.Core.Path.{_≡_};
 ghost use mathlib.Core.List.{List};
-ghost use Prim.Native.Nat.{ℕ, _<_};
-ghost use lib.ListN.{length};
+ghost use Prim.Native.Nat.{ℕ};
 ghost use Rattle.laws.specs.Bits.{bit};
 ghost use Rattle.origins.specs.Origins.{portRegister};
 ghost use Rattle.origins.specs.KeptOrigins.{keptNumber};
-ghost use Rattle.endstate.specs.Gathering.{Gathers};
-ghost use Rattle.endstate.specs.Findings.{findingOf};
+ghost use Rattle.endstate.specs.Gathering.{gatheredOf};
+ghost use Rattle.endstate.specs.Findings.{clashOf};
 ghost use Rattle.endstate.specs.Channels.{portLines, identifierRegister, ifIn, portNumbers};
 ghost use Rattle.endstate.specs.Channels.{syncForwarding, asksForLines, sameChannel};
 use crate::findings::Clash;
@@ -19,8 +18,7 @@ use formats::Format;
 use hub::Hub;
 use origins::RegistersWithOrigins;
 use registers::bits;
-
-const FWD_CTL2: usize = 0x21;
+use registers::map;
 
 // The lines that set a port's route, 0 for none.
 pub struct PortLines {
@@ -34,9 +32,9 @@ pub fn port_lines(state: RegistersWithOrigins, port: u8) -> PortLines
     ensures { λ r. ⌜ r ≡ portLines state port ⌝ }
 {
     PortLines {
-        forwarding: origins::shared_origin(state, 0x20),
-        raw10: origins::port_origin(state, port, 0x70),
-        raw12: origins::port_origin(state, port, 0x71),
+        forwarding: origins::shared_origin(state, map::FWD_CTL1 as u8),
+        raw10: origins::port_origin(state, port, map::RAW10_ID as u8),
+        raw12: origins::port_origin(state, port, map::RAW12_ID as u8),
     }
 }
 
@@ -45,8 +43,8 @@ fn identifier_register(format: Format) -> u8
     ensures { λ r. ⌜ r ≡ identifierRegister format ⌝ }
 {
     match format {
-        Format::Raw10 => 0x70,
-        Format::Raw12 => 0x71,
+        Format::Raw10 => map::RAW10_ID as u8,
+        Format::Raw12 => map::RAW12_ID as u8,
     }
 }
 
@@ -58,8 +56,8 @@ fn with_port(
     port: u8,
     offset: u8,
 ) -> Gathered
-    ensures { λ r. ⌜ ((numbers : List ℕ) → length numbers < 12 → Gathers numbers gathered
-        → Gathers (ifIn (bit port mask) (keptNumber state (portRegister port offset)) numbers) r) ⌝ }
+    ensures { λ r. ⌜ ((numbers : List ℕ) → gathered ≡ gatheredOf numbers
+        → r ≡ gatheredOf (ifIn (bit port mask) (keptNumber state (portRegister port offset)) numbers)) ⌝ }
 {
     if !bits::is_set(mask, port) {
         return gathered;
@@ -70,8 +68,8 @@ fn with_port(
 
 // The origins of the register at an offset, of the ports in a mask.
 fn origins_of_ports(state: RegistersWithOrigins, mask: u8, offset: u8) -> Gathered
-    ensures { λ r. ⌜ Gathers
-        (portNumbers (λ port. bit port mask) (λ port. keptNumber state (portRegister port offset))) r ⌝ }
+    ensures { λ r. ⌜ r ≡ gatheredOf
+        (portNumbers (λ port. bit port mask) (λ port. keptNumber state (portRegister port offset))) ⌝ }
 {
     let none = gathering::nothing();
     let port_3 = with_port(none, state, mask, 3, offset);
@@ -85,7 +83,7 @@ fn sync_forwarding(hub: Hub, output: u8) -> u8
     ensures { λ r. ⌜ r ≡ syncForwarding (hub .registers) output ⌝ }
 {
     let file = hub.registers;
-    let control = file.shared[FWD_CTL2];
+    let control = file.shared[map::FWD_CTL2];
     match output {
         0 => control / 4 % 4,
         1 => control / 16 % 4,
@@ -108,7 +106,7 @@ pub fn same_channel(
     output: u8,
     channel: u8,
 ) -> Clash
-    ensures { λ r. ⌜ findingOf r ≡ sameChannel hub state format output channel ⌝ }
+    ensures { λ r. ⌜ r ≡ clashOf (sameChannel hub state format output channel) ⌝ }
 {
     let ports = channels::ports_on(hub, format, output, channel);
     let offset = identifier_register(format);

@@ -1,11 +1,9 @@
 // Origins gathered one by one: their lines, and whether all of them are one and the same line.
 ghost use mathlib.Core.Path.{_≡_};
-ghost use mathlib.Core.Bool.{cond, true, false};
+ghost use mathlib.Core.Bool.{cond, true};
 ghost use mathlib.Core.List.{[]};
 ghost use lib.Dec.{eqb};
-ghost use lib.ListN.{take};
-ghost use Rattle.endstate.specs.RisingLines.{linesOf, withLine};
-ghost use Rattle.endstate.specs.Gathering.{gatheredOne};
+ghost use Rattle.endstate.specs.Gathering.{gatheredOf, withOrigin, gatheredOne};
 use crate::lines;
 use crate::lines::Lines;
 
@@ -17,7 +15,7 @@ pub struct Gathered {
 
 // Of no origins.
 pub fn nothing() -> Gathered
-    ensures { λ r. ⌜ (linesOf (r .lines) ≡ []) × (r .unset ≡ false) ⌝ }
+    ensures { λ r. ⌜ r ≡ gatheredOf [] ⌝ }
 {
     Gathered {
         lines: lines::no_lines(),
@@ -34,8 +32,7 @@ fn unset_or(number: u64, others: bool) -> bool
 
 // Of one origin more.
 pub fn with_origin(gathered: Gathered, number: u64) -> Gathered
-    ensures { λ r. ⌜ (linesOf (r .lines) ≡ take 12 (withLine number (linesOf (gathered .lines))))
-        × (r .unset ≡ cond (eqb number 0) true (gathered .unset)) ⌝ }
+    ensures { λ r. ⌜ r ≡ withOrigin number gathered ⌝ }
 {
     let before = gathered.lines;
     Gathered {
@@ -52,5 +49,8 @@ pub fn is_one_line(gathered: Gathered) -> bool
         return false;
     }
     let found = gathered.lines;
-    found.count == 1
+    if found.numbers[0] == 0 {
+        return false;
+    }
+    found.numbers[1] == 0
 }

@@ -1,9 +1,6 @@
 // What is found of ports that share something, by the origins of what they share.
 ghost use mathlib.Core.Path.{_≡_};
-ghost use mathlib.Core.List.{List};
-ghost use Prim.Native.Nat.{ℕ};
-ghost use Rattle.endstate.specs.Gathering.{Gathers};
-ghost use Rattle.endstate.specs.Findings.{gradeBy, findingOf, sharedBy};
+ghost use Rattle.endstate.specs.Gathering.{gradeGathered, clashBy};
 use crate::findings::Clash;
 use crate::findings::Grade;
 use crate::gathering;
@@ -12,7 +9,7 @@ use crate::lines;
 
 // Meant, where the origins are one and the same line or it is asked for.
 fn grade_by(gathered: Gathered, asked: bool) -> Grade
-    ensures { λ r. ⌜ ((numbers : List ℕ) → Gathers numbers gathered → r ≡ gradeBy numbers «asked») ⌝ }
+    ensures { λ r. ⌜ r ≡ gradeGathered gathered «asked» ⌝ }
 {
     if asked {
         return Grade::Meant;
@@ -25,8 +22,7 @@ fn grade_by(gathered: Gathered, asked: bool) -> Grade
 
 // What is found of the ports that share something, with the origins of what they share.
 pub fn shared_by(ports: u8, gathered: Gathered, asked: bool) -> Clash
-    ensures { λ r. ⌜ ((numbers : List ℕ) → Gathers numbers gathered
-        → findingOf r ≡ sharedBy ports numbers «asked») ⌝ }
+    ensures { λ r. ⌜ r ≡ clashBy ports gathered «asked» ⌝ }
 {
     if !ports::are_several(ports) {
         return Clash {

@@ -7,3 +7,4 @@ mod gathering;
 mod grading;
 pub mod lines;
 pub mod unset;
+pub mod wrong;

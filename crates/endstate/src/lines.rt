@@ -1,34 +1,19 @@
 // Lines that rise, each once: the lines that explain a fact.
 ghost use mathlib.Core.Path.{_≡_};
 ghost use mathlib.Core.List.{[]};
-ghost use Prim.Native.Nat.{_≤_};
-ghost use lib.ListN.{take};
-ghost use Rattle.endstate.specs.RisingLines.{lesserOf, greaterOf, inPlace, withLine, linesOf};
+ghost use Rattle.endstate.specs.RisingLines.{lesserOf, greaterOf, withLine};
+ghost use Rattle.endstate.specs.LineRows.{linesOf, linesRow, placedAt, carriedOn};
 
-// The first `count` of the numbers, at most 12.
+// The lines, then zeros: 0 is no line. What stands behind the first zero is none of them.
 pub struct Lines {
     pub numbers: [u64; 12],
-    pub count: usize,
 }
 
 // No lines.
 pub fn no_lines() -> Lines
-    ensures { λ r. ⌜ linesOf r ≡ [] ⌝ }
+    ensures { λ r. ⌜ r ≡ linesRow [] ⌝ }
 {
-    Lines {
-        numbers: [0; 12],
-        count: 0,
-    }
-}
-
-// How many numbers there are; an array of 12 has no more.
-fn filled(lines: Lines) -> usize
-    ensures { λ r. ⌜ (r ≤ 12) × (take r (lines .numbers) ≡ linesOf lines) ⌝ }
-{
-    if 12 < lines.count {
-        return 12;
-    }
-    lines.count
+    Lines { numbers: [0; 12] }
 }
 
 // The lesser of two numbers.
@@ -45,39 +30,46 @@ fn greater(a: u64, b: u64) -> u64
     if a < b { b } else { a }
 }
 
-// A number put in its place.
-fn in_place(lines: Lines, number: u64) -> Lines
-    ensures { λ r. ⌜ linesOf r ≡ take 12 (inPlace number (linesOf lines)) ⌝ }
+// What stays at a place where a number is carried to the one there; 0 is not carried.
+fn placed_at(carried: u64, at: u64) -> u64
+    ensures { λ r. ⌜ r ≡ placedAt carried at ⌝ }
 {
-    let count = filled(lines);
-    let mut numbers = lines.numbers;
-    let mut carried = number;
-    let mut i = 0;
-    while i < count {
-        let at = numbers[i];
-        if carried == at {
-            return Lines { numbers, count };
-        }
-        numbers[i] = lesser(carried, at);
-        carried = greater(carried, at);
-        i += 1;
+    if carried == 0 {
+        return at;
     }
-    if count == 12 {
-        return Lines { numbers, count };
-    }
-    numbers[count] = carried;
-    Lines {
-        numbers,
-        count: count + 1,
-    }
+    lesser(carried, at)
 }
 
-// The lines with one more; 0, no line, adds nothing. There is no place for a thirteenth.
-pub fn with_line(lines: Lines, number: u64) -> Lines
-    ensures { λ r. ⌜ linesOf r ≡ take 12 (withLine number (linesOf lines)) ⌝ }
+// What is carried on from there: nothing, where the number is there already.
+fn carried_on(carried: u64, at: u64) -> u64
+    ensures { λ r. ⌜ r ≡ carriedOn carried at ⌝ }
 {
-    if number == 0 {
-        return lines;
+    if carried == 0 {
+        return 0;
     }
-    in_place(lines, number)
+    if carried == at {
+        return 0;
+    }
+    greater(carried, at)
+}
+
+// The lines with one more in its place; 0, no line, adds nothing. There is no place for a thirteenth.
+pub fn with_line(lines: Lines, number: u64) -> Lines
+    ensures { λ r. ⌜ r ≡ linesRow (withLine number (linesOf lines)) ⌝ }
+{
+    let given = lines.numbers;
+    let mut numbers = [0u64; 12];
+    let mut carried = number;
+    let mut i = 0;
+    while i < 12 {
+        let at = given[i];
+        if at == 0 {
+            numbers[i] = carried;
+            return Lines { numbers };
+        }
+        numbers[i] = placed_at(carried, at);
+        carried = carried_on(carried, at);
+        i += 1;
+    }
+    Lines { numbers }
 }

@@ -19,9 +19,9 @@ use Rattle.origins.specs.Origins.{NoneReaches, LastReaching}
 use Rattle.origins.proofs.LastWrites.{every-origin-is-last}
 use Rattle.origins.proofs.Reaching.{no-port}
 use Rattle.ordering.proofs.KindLaws.{kind-not-followed, paged-kind, selection-kind}
-use Rattle.findings.specs.Blocks.{blockOf, lastBlock, blocksBegun, numberedByBlock}
+use Rattle.findings.specs.Blocks.{blockNumber, lastBlock, blocksBegun, numberedByBlock}
 
-block-from : (block offset : ℕ) → blockOf block offset ≡ block + blockOf 0 offset
+block-from : (block offset : ℕ) → blockNumber block offset ≡ block + blockNumber 0 offset
 block-from block offset = go (eqb offset FPD3-PORT-SEL)
   where
     go : (b : Bool) → cond b (block + 1) block ≡ block + cond b (0 + 1) 0
@@ -34,33 +34,33 @@ last-from block [] = omega arith
 last-from block (w ∷ ws) =
     omega (
       arith,
-      last-from (blockOf block (w .offset)) ws,
-      last-from (blockOf 0 (w .offset)) ws,
+      last-from (blockNumber block (w .offset)) ws,
+      last-from (blockNumber 0 (w .offset)) ws,
       block-from block (w .offset),
     )
 
 last-append : (block : ℕ) (a b : List NumberedWrite) → lastBlock block (a ++ b) ≡ lastBlock (lastBlock block a) b
 unfolding lastBlock
 last-append block [] b = refl
-last-append block (w ∷ a) b = last-append (blockOf block (w .offset)) a b
+last-append block (w ∷ a) b = last-append (blockNumber block (w .offset)) a b
 
 -- a write with its block in place of its number
 abbrev pub inBlock : ℕ → NumberedWrite → NumberedWrite
-inBlock block w = record { number = blockOf block (w .offset); offset = w .offset; value = w .value }
+inBlock block w = record { number = blockNumber block (w .offset); offset = w .offset; value = w .value }
 
 by-block-append : (block : ℕ) (a b : List NumberedWrite)
     → numberedByBlock block (a ++ b) ≡ numberedByBlock block a ++ numberedByBlock (lastBlock block a) b
 unfolding lastBlock numberedByBlock
 by-block-append block [] b = refl
 by-block-append block (w ∷ a) b =
-    ap (λ (l : List NumberedWrite). inBlock block w ∷ l) (by-block-append (blockOf block (w .offset)) a b)
+    ap (λ (l : List NumberedWrite). inBlock block w ∷ l) (by-block-append (blockNumber block (w .offset)) a b)
 
 same-writes : (block : ℕ) (ws : List NumberedWrite)
     → unnumberedWrites (numberedByBlock block ws) ≡ unnumberedWrites ws
 unfolding numberedByBlock unnumberedWrites
 same-writes block [] = refl
 same-writes block (w ∷ ws) =
-    ap (λ (l : List RegisterWrite). unnumbered w ∷ l) (same-writes (blockOf block (w .offset)) ws)
+    ap (λ (l : List RegisterWrite). unnumbered w ∷ l) (same-writes (blockNumber block (w .offset)) ws)
 
 module _ (register : Register) where
   -- which write is the last that reaches a register does not depend on the numbers
@@ -69,7 +69,7 @@ module _ (register : Register) where
   unfolding numberedByBlock
   none-reaches file block [] n = tt
   none-reaches file block (w ∷ ws) n =
-      (n .0, none-reaches (afterNumbered file w) (blockOf block (w .offset)) ws (n .1))
+      (n .0, none-reaches (afterNumbered file w) (blockNumber block (w .offset)) ws (n .1))
 
   module _ (file : RegisterFile) (ws : List NumberedWrite) (o : NumberedWrite)
       (last : LastReaching file ws register o) where
@@ -80,7 +80,7 @@ module _ (register : Register) where
         ap (writeEach Selection file) (same-writes 0 (last .earlier)) in
         record {
           earlier = numberedByBlock 0 (last .earlier);
-          later = numberedByBlock (blockOf (blocksBegun (last .earlier)) (o .offset)) (last .later);
+          later = numberedByBlock (blockNumber (blocksBegun (last .earlier)) (o .offset)) (last .later);
           split = ap (numberedByBlock 0) (last .split) ∙ by-block-append 0 (last .earlier) (o ∷ last .later);
           reaching = rw same (last .reaching);
           last = rw same (none-reaches _ _ (last .later) (last .last));
@@ -102,7 +102,7 @@ selection-writable : maskOf FPD3-PORT-SEL ≡ 0 → ⊥
 selection-writable m = let one = kind-not-followed FPD3-PORT-SEL m in let other = selection-kind in zero-not-one (cc)
 
 in-same-block : (file : RegisterFile) (port offset at block : ℕ) → reaches file at (portRegister port offset) ≡ true
-    → blockOf block at ≡ block
+    → blockNumber block at ≡ block
 in-same-block file port offset at block r = go (eqb at FPD3-PORT-SEL) refl
   where
     go : (b : Bool) → eqb at FPD3-PORT-SEL ≡ b → cond b (block + 1) block ≡ block
@@ -116,7 +116,7 @@ in-same-block file port offset at block r = go (eqb at FPD3-PORT-SEL) refl
 -- the block of a port register's origin, and how many there are in all
 module _ (port offset : ℕ) (file : RegisterFile) (ws : List NumberedWrite) (o : NumberedWrite)
     (last : LastReaching file ws (portRegister port offset) o) where
-  pub own-block : blockOf (blocksBegun (last .earlier)) (o .offset) ≡ blocksBegun (last .earlier)
+  pub own-block : blockNumber (blocksBegun (last .earlier)) (o .offset) ≡ blocksBegun (last .earlier)
   own-block = in-same-block _ port offset (o .offset) (blocksBegun (last .earlier)) (last .reaching)
 
   pub all-blocks : blocksBegun ws ≡ blocksBegun (last .earlier) + blocksBegun (last .later)

@@ -1,7 +1,7 @@
 -- The laws of specs/OnOrder.antt: the order and the extent are those of `ordering`.
 -- Assumes nothing.
 use mathlib.Core.List.{_∷_, _++_}
-use Rattle.ordering.proofs.FindingLaws.{port-twice-exact}
+use Rattle.ordering.proofs.BreakingWriteLaws.{port-twice-exact}
 use Rattle.ordering.proofs.InsideLaws.{shared-in-block-exact}
 use Rattle.findings.specs.OnOrder.{PortTwiceFound, SharedInBlockFound}
 use Rattle.findings.proofs.SoFarLaws.{order-kept, extent-kept}

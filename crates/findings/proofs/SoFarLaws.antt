@@ -18,7 +18,7 @@ use Rattle.origins.proofs.KeptOrigins.{every-origin-kept}
 use Rattle.ordering.specs.Orders.{orderAfter, orderOf}
 use Rattle.ordering.specs.Inside.{extentAfter, extentOf}
 use Rattle.findings.specs.declared.WritesSoFar.{WritesSoFar}
-use Rattle.findings.specs.Blocks.{blockOf, lastBlock, blocksBegun, numberedByBlock}
+use Rattle.findings.specs.Blocks.{blockNumber, lastBlock, blocksBegun, numberedByBlock}
 use Rattle.findings.specs.WritesSoFar.{startSoFar, nextBlock, stepSoFar, stepEach, soFar, EveryPartKept}
 
 numbers-after : (s : WritesSoFar) (ws : List NumberedWrite)
@@ -38,10 +38,10 @@ extent-after s [] = refl
 extent-after s (w ∷ ws) = extent-after (stepSoFar s w) ws
 
 -- a count of 64 bits does not wrap
-counted : (block offset : ℕ) → block + 1 < 2 ^ 64 → nextBlock block offset ≡ blockOf block offset
+counted : (block offset : ℕ) → block + 1 < 2 ^ 64 → nextBlock block offset ≡ blockNumber block offset
 counted block offset h = ap (λ (n : ℕ). cond (eqb offset FPD3-PORT-SEL) n block) (mod-eq-of-lt h)
 
-at-most-one : (block offset : ℕ) → blockOf block offset ≤ block + 1
+at-most-one : (block offset : ℕ) → blockNumber block offset ≤ block + 1
 at-most-one block offset = go (eqb offset FPD3-PORT-SEL)
   where
     go : (b : Bool) → cond b (block + 1) block ≤ block + 1
@@ -58,7 +58,7 @@ unfolding stepEach stepSoFar writeNumberedEach lastBlock numberedByBlock
 blocks-after s [] h = record { block = refl; blocks = refl }
 blocks-after s (w ∷ ws) h =
     let next = nextBlock (s .block) (w .offset) in
-    let e : next ≡ blockOf (s .block) (w .offset) = counted (s .block) (w .offset) (omega arith) in
+    let e : next ≡ blockNumber (s .block) (w .offset) = counted (s .block) (w .offset) (omega arith) in
     let few : next + length ws < 2 ^ 64 = omega (arith, e, at-most-one (s .block) (w .offset)) in
     let rest = blocks-after (stepSoFar s w) ws few in
     record {

@@ -36,8 +36,8 @@ anyChanged file offset value =
     || anyPort (portMask (λ port. changes file offset value (portRegister port offset)))
 
 -- 0x5C or 0x65 to 0x6C
-abbrev pub isAlias : ℕ → Bool
-isAlias offset = eqb offset SER-ALIAS-ID || (leb TARGET-ALIAS-0 offset && ltb offset (TARGET-ALIAS-0 + 8))
+abbrev pub isAliasRegister : ℕ → Bool
+isAliasRegister offset = eqb offset SER-ALIAS-ID || (leb TARGET-ALIAS-0 offset && ltb offset (TARGET-ALIAS-0 + 8))
 
 abbrev pub isOdd : ℕ → Bool
 isOdd value = eqb (value % 2) 1
@@ -64,11 +64,11 @@ noChange start before w =
 -- `odd-alias`: "0x5C or 0x65 to 0x6C of some port gets an odd value"
 unfoldable pub oddAlias : RegisterFile → List NumberedWrite → NumberedWrite → Bool
 oddAlias start before w =
-    isAlias (w .offset) && (anyPort (portsReached (afterEach start before) (w .offset)) && isOdd (w .value))
+    isAliasRegister (w .offset) && (anyPort (portsReached (afterEach start before) (w .offset)) && isOdd (w .value))
 
 -- How the code finds an odd alias.
 unfoldable pub oddAliasBy : Effect → ℕ → ℕ → Bool
-oddAliasBy effect offset value = isAlias offset && (anyPort (reachedBy effect) && isOdd value)
+oddAliasBy effect offset value = isAliasRegister offset && (anyPort (reachedBy effect) && isOdd value)
 
 -- What the code says of a write, by what it knows after the writes before, is what the sentence says of it.
 abbrev pub PortsReachedExact : Type 0

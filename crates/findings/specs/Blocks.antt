@@ -9,13 +9,13 @@ use Rattle.registers.specs.RegisterMap.{FPD3-PORT-SEL}
 use Rattle.origins.specs.NumberedWrites.{NumberedWrite}
 
 -- the block that a write to an offset stands in, where the write before it stands in `block`
-abbrev pub blockOf : ℕ → ℕ → ℕ
-blockOf block offset = cond (eqb offset FPD3-PORT-SEL) (block + 1) block
+abbrev pub blockNumber : ℕ → ℕ → ℕ
+blockNumber block offset = cond (eqb offset FPD3-PORT-SEL) (block + 1) block
 
 -- that of the last write of a list, and so how many blocks the writes of a list begin
 unfoldable pub lastBlock : ℕ → List NumberedWrite → ℕ
 lastBlock block [] = block
-lastBlock block (w ∷ ws) = lastBlock (blockOf block (w .offset)) ws
+lastBlock block (w ∷ ws) = lastBlock (blockNumber block (w .offset)) ws
 
 abbrev pub blocksBegun : List NumberedWrite → ℕ
 blocksBegun ws = lastBlock 0 ws
@@ -24,7 +24,7 @@ blocksBegun ws = lastBlock 0 ws
 unfoldable pub numberedByBlock : ℕ → List NumberedWrite → List NumberedWrite
 numberedByBlock block [] = []
 numberedByBlock block (w ∷ ws) =
-    let own = blockOf block (w .offset) in
+    let own = blockNumber block (w .offset) in
     record { number = own; offset = w .offset; value = w .value } ∷ numberedByBlock own ws
 
 -- a block, and an earlier one than the present

@@ -8,7 +8,7 @@ use Rattle.registers.specs.declared.RegisterFile.{RegisterFile}
 use Rattle.origins.specs.NumberedWrites.{NumberedWrite}
 use Rattle.ordering.specs.Orders.{portTwiceNow}
 use Rattle.ordering.specs.Inside.{sharedInBlock, sharedInsideNow}
-use Rattle.ordering.specs.Findings.{portTwice}
+use Rattle.ordering.specs.BreakingWrites.{portTwice}
 use Rattle.findings.specs.WritesSoFar.{soFar}
 
 -- `port-twice`: "a write to 0x4C ticks a port that an earlier one ticked: the latest such line and this one, one

@@ -11,8 +11,7 @@ use registers::RegisterFile;
 use registers::map;
 use std::num::wrapping_add_u64;
 
-pub mod at_write;
-mod by_effect;
+pub mod by_effect;
 pub mod on_order;
 pub mod replaced;
 

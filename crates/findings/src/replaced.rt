@@ -4,7 +4,6 @@ ghost use mathlib.Core.Path.{_≡_};
 ghost use Rattle.findings.specs.Blocks.{isEarlier};
 ghost use Rattle.findings.specs.Replaced.{replacedNow};
 use crate::WritesSoFar;
-use crate::at_write;
 use crate::by_effect;
 
 // Whether the finding is there; the number of the register's origin.
@@ -27,7 +26,7 @@ fn is_earlier(block: u64, present: u64) -> bool
 pub fn replaced(before: WritesSoFar, offset: u8, value: u8, port: u8) -> Replacement
     ensures { λ r. ⌜ r ≡ replacedNow before offset value port ⌝ }
 {
-    if !by_effect::changes_port(at_write::effect_now(before, offset, value), port) {
+    if !by_effect::changes_port(by_effect::effect_now(before, offset, value), port) {
         return Replacement::NotReplaced;
     }
     let block = origins::port_origin(before.blocks, port, offset);

@@ -50,8 +50,8 @@ too-wide hub port size place a b h k = ap (cond (ltb 3 port) (refused 1)) (go (l
     go (Closed format number) = refl
     go (Open format number) = over format a h ∙ sym (over format b k)
 
--- What holds of refusals other than 8, of a dropped event, and of what the two packet writers answer, holds of every event.
-module _ (P : Reply (Outcome (List ℕ)) → Type 0) (refusal : (number : ℕ) → (number ≡ 8 → ⊥) → P (refused number)) (drop : P (given dropped)) where
+-- What holds of refusals below 8, of a dropped event, and of what the two packet writers answer, holds of every event.
+module _ (P : Reply (Outcome (List ℕ)) → Type 0) (refusal : (number : ℕ) → number < 8 → P (refused number)) (drop : P (given dropped)) where
   either : (b : Bool) {x y : Reply (Outcome (List ℕ))} → P x → P y → P (cond b x y)
   either true p q = p
   either false p q = q
@@ -61,18 +61,18 @@ module _ (P : Reply (Outcome (List ℕ)) → Type 0) (refusal : (number : ℕ) �
   forwarded (output csi raw10 raw12) packet p = p csi
 
   if-format : (bits : ℕ) (next : Format → Reply (Outcome (List ℕ))) → ((format : Format) → P (next format)) → P (andThen (formatOf bits) next)
-  if-format bits next p = by-format (λ reply. P (andThen reply next)) (refusal 3 (λ q. omega arith)) p bits
+  if-format bits next p = by-format (λ reply. P (andThen reply next)) (refusal 3 (omega arith)) p bits
 
   if-open : (last : LastFrame) (next : Format → ℕ → Reply (Outcome (List ℕ))) → ((format : Format) (number : ℕ) → P (next format number))
       → P (ifOpen last next)
   unfolding ifOpen
-  if-open NoFrame next p = refusal 4 (λ q. omega arith)
-  if-open (Closed format number) next p = refusal 4 (λ q. omega arith)
+  if-open NoFrame next p = refusal 4 (omega arith)
+  if-open (Closed format number) next p = refusal 4 (omega arith)
   if-open (Open format number) next p = p format number
 
   after-check : (check : PixelCheck) (next : Reply (Outcome (List ℕ))) → (check ≡ Fit → P next) → P (afterCheck check next)
-  after-check WidthNotAllowed next p = refusal 5 (λ q. omega arith)
-  after-check PixelTooLarge next p = refusal 6 (λ q. omega arith)
+  after-check WidthNotAllowed next p = refusal 5 (omega arith)
+  after-check PixelTooLarge next p = refusal 6 (omega arith)
   after-check Fit next p = p refl
 
   pub by-event : (size place : ℕ)
@@ -82,16 +82,16 @@ module _ (P : Reply (Outcome (List ℕ)) → Type 0) (refusal : (number : ℕ) �
       → (hub : Hub) (event : Event) → P (eventReply hub event size place)
   unfolding eventReply
   by-event size place short long hub (startEvent port bits) =
-      either (ltb 3 port) (refusal 1 (λ q. omega arith))
+      either (ltb 3 port) (refusal 1 (omega arith))
       (if-format bits _ (λ format.
-      either (isOpen (lastFrame hub port)) (refusal 4 (λ q. omega arith)) (forwarded (portRoute (hub .registers) port) _ (λ csi. short csi _ _ _))))
+      either (isOpen (lastFrame hub port)) (refusal 4 (omega arith)) (forwarded (portRoute (hub .registers) port) _ (λ csi. short csi _ _ _))))
   by-event size place short long hub (pixelLineEvent port pixels) =
-      either (ltb 3 port) (refusal 1 (λ q. omega arith))
+      either (ltb 3 port) (refusal 1 (omega arith))
       (if-open (lastFrame hub port) _ (λ format number.
       after-check (checkOf format pixels) _ (λ good.
       forwarded (portRoute (hub .registers) port) _ (λ csi. long csi format pixels _ (good-width format pixels good)))))
   by-event size place short long hub (endEvent port) =
-      either (ltb 3 port) (refusal 1 (λ q. omega arith))
+      either (ltb 3 port) (refusal 1 (omega arith))
       (if-open (lastFrame hub port) _ (λ format number. forwarded (portRoute (hub .registers) port) _ (λ csi. short csi _ _ _)))
 
 module _ (size place : ℕ) where
@@ -137,4 +137,4 @@ module _ (size place : ℕ) where
             room-fits packet (6 + n) (packet-count format pixels identifier n refl) (omega arith) (omega arith)
 
   pub event-fits : (hub : Hub) (event : Event) → EventFits (eventReply hub event size place)
-  event-fits = by-event EventFits (λ number other eight. absurd (other eight)) tt size place short-fits long-fits
+  event-fits = by-event EventFits (λ number small eight. absurd (omega arith)) tt size place short-fits long-fits

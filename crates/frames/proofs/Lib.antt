@@ -1,2 +1,3 @@
 pub mod EventLaws
 pub mod EventSizes
+pub mod EventRefusals

@@ -42,11 +42,11 @@ largestNumber file = 256 * sharedAt file MAX-FRM-HI + sharedAt file MAX-FRM-LO
 
 -- "The next number is 0 if the largest frame number is 0; otherwise the old number plus 1 if that is at most the
 -- largest, else 1."
-unfoldable pub nextNumber : ℕ → ℕ → ℕ
-nextNumber largest old = cond (eqb largest 0) 0 (cond (leb (old + 1) largest) (old + 1) 1)
+unfoldable pub nextFrameNumber : ℕ → ℕ → ℕ
+nextFrameNumber largest old = cond (eqb largest 0) 0 (cond (leb (old + 1) largest) (old + 1) 1)
 
 abbrev pub startNumber : Hub → ℕ → ℕ
-startNumber hub port = nextNumber (largestNumber (hub .registers)) (frameNumber (lastFrame hub port))
+startNumber hub port = nextFrameNumber (largestNumber (hub .registers)) (frameNumber (lastFrame hub port))
 
 -- What becomes of an event that is not refused: dropped, or a packet leaves on a CSI output. (The caller is told how
 -- many bytes the packet has, and a printed line shows its header.)
@@ -123,17 +123,17 @@ bufferAfter buffer place (given dropped) = buffer
 bufferAfter buffer place (given (sent csi packet)) = written buffer place packet
 
 -- the paper's numbers and values for each case of the answer; 4: "start on an open port; line or end on a closed one"
-abbrev pub refusalNumber : EventRefusal → ℕ
-refusalNumber EventRefusal.NoSuchPort = 1
-refusalNumber EventRefusal.UnknownFormat = 3
-refusalNumber EventRefusal.OutOfSequence = 4
-refusalNumber EventRefusal.WidthNotAllowed = 5
-refusalNumber EventRefusal.PixelTooLarge = 6
-refusalNumber EventRefusal.ShortType = 7
-refusalNumber EventRefusal.NoRoom = 8
+abbrev pub eventRefusalNumber : EventRefusal → ℕ
+eventRefusalNumber EventRefusal.NoSuchPort = 1
+eventRefusalNumber EventRefusal.UnknownFormat = 3
+eventRefusalNumber EventRefusal.OutOfSequence = 4
+eventRefusalNumber EventRefusal.WidthNotAllowed = 5
+eventRefusalNumber EventRefusal.PixelTooLarge = 6
+eventRefusalNumber EventRefusal.ShortType = 7
+eventRefusalNumber EventRefusal.NoRoom = 8
 
 abbrev pub eventAnswerReply : EventAnswer → Reply (Outcome ℕ)
-eventAnswerReply (Refused refusal) = refused (refusalNumber refusal)
+eventAnswerReply (Refused refusal) = refused (eventRefusalNumber refusal)
 eventAnswerReply Dropped = given dropped
 eventAnswerReply (Sent csi bytes) = given (sent csi bytes)
 

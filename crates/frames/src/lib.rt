@@ -1,7 +1,7 @@
 // Frame events on the hub: a frame start, a pixel line or a frame end comes in at a port and leaves as a packet, is
 // dropped or is refused.
 ghost use mathlib.Core.Path.{_≡_};
-ghost use Rattle.frames.specs.Events.{refusalNumber};
+ghost use Rattle.frames.specs.Events.{eventRefusalNumber};
 use hub::Hub;
 
 pub mod end;
@@ -37,7 +37,7 @@ pub struct AfterEvent {
 
 // The number of a refusal in document 01.
 pub fn refusal_number(refusal: EventRefusal) -> u8
-    ensures { λ r. ⌜ r ≡ refusalNumber refusal ⌝ }
+    ensures { λ r. ⌜ r ≡ eventRefusalNumber refusal ⌝ }
 {
     match refusal {
         EventRefusal::NoSuchPort => 1,

@@ -2,7 +2,7 @@
 ghost use mathlib.Core.Path.{_≡_};
 ghost use Prim.Native.Nat.{_+_, _*_};
 ghost use Rattle.hub.specs.Hubs.{frameNumber};
-ghost use Rattle.frames.specs.Events.{nextNumber, startNumber};
+ghost use Rattle.frames.specs.Events.{nextFrameNumber, startNumber};
 use hub::Hub;
 use hub::LastFrame;
 use registers::map;
@@ -25,8 +25,8 @@ fn number_of(last: LastFrame) -> u16
 }
 
 // The number that follows `old`.
-fn next_number(largest: u16, old: u16) -> u16
-    ensures { λ r. ⌜ r ≡ nextNumber largest old ⌝ }
+fn next_frame_number(largest: u16, old: u16) -> u16
+    ensures { λ r. ⌜ r ≡ nextFrameNumber largest old ⌝ }
 {
     if largest == 0 {
         return 0;
@@ -45,5 +45,5 @@ pub(crate) fn start_number(hub: Hub, port: u8) -> u16
     let largest = high_low(file.shared[map::MAX_FRM_HI], file.shared[map::MAX_FRM_LO]);
     let frames = hub::port_frames(hub, port);
     let last = frames.last;
-    next_number(largest, number_of(last))
+    next_frame_number(largest, number_of(last))
 }

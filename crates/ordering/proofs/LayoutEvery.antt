@@ -19,14 +19,16 @@ use Rattle.ordering.specs.declared.ticks.Ticks.{Ticks}
 use Rattle.ordering.specs.declared.Phase.{Phase}
 use Rattle.ordering.specs.declared.Phase.the-variants.{BeforeBlocks, InBlock}
 use Rattle.ordering.specs.declared.Order.{Order}
-use Rattle.ordering.specs.Kinds.{kindOf, kind}
-use Rattle.ordering.specs.Ticks.{wasTicked, noTicks, lastTick, tickedPorts, ticksAgain, anyAgain}
+use Rattle.ordering.specs.Kinds.{kindOf, kind, followed}
+use Rattle.ordering.specs.Ticks.{wasTicked, noTicks, lastTick, withTicks, ticksAgain, anyAgain}
 use Rattle.ordering.specs.Orders.{phaseAfter, orderBy, orderStep, firstOrder, orderAfter, orderOf}
-use Rattle.ordering.specs.Layouts.{blockOf, blocksOf, joined, AllShared, Layout, AnyOrderExact}
+use Rattle.ordering.specs.Layouts.{blockOf, blocksOf, joinedBlocks, AllShared, followedEach, Layout}
+use Rattle.ordering.specs.Layouts.{AnyOrderExact}
 use Rattle.ordering.proofs.KindLaws.{selection-kind, paged-kind}
 use Rattle.ordering.proofs.TickLaws.{all-length, all-ticked, none-length, none-ticked, again-none, any-by}
 use Rattle.ordering.proofs.OrderLaws.{orderAt, stepOf, followed-order}
 use Rattle.ordering.proofs.BlockLaws.{block-starts, block-rest, block-selects, no-block}
+use Rattle.ordering.proofs.FollowedLaws.{followed-parts}
 use Rattle.ordering.proofs.LayoutOnly.{room, layout-only}
 
 -- a step, by the kind of the write
@@ -80,7 +82,7 @@ module _ (end : List NumberedWrite) (endShared : AllShared end) where
       (blocks : List (List NumberedWrite)) (d : Disjoint ticks ((w ∷ lead) ∷ blocks)) where
     record Free (port : ℕ) : Type 0 where
       once : ticksAgain ticks (w .value) port ≡ false
-      left : length (selecting port (blocksOf blocks)) ≤ room (lastTick (tickedPorts ticks (w .number) (w .value)) port)
+      left : length (selecting port (blocksOf blocks)) ≤ room (lastTick (withTicks ticks (w .number) (w .value)) port)
 
     free : (port : ℕ) → port < 4 → Free port
     unfolding selecting
@@ -107,37 +109,40 @@ module _ (end : List NumberedWrite) (endShared : AllShared end) where
 
     fits-selection : (started : Bool)
         → orderBy Selection (orderAt true (phaseOf started) ticks) (w .number) (w .value)
-        ≡ orderAt true InBlock (tickedPorts ticks (w .number) (w .value))
+        ≡ orderAt true InBlock (withTicks ticks (w .number) (w .value))
     fits-selection true = rw none
     fits-selection false = rw none
 
   all-blocks : (started : Bool) (ticks : Ticks) → length (ticks .ports) ≡ 4 → (blocks : List (List NumberedWrite))
       → ((block : Block) → List·Memᴰ block (blocksOf blocks) → IsSetupBlock block) → Disjoint ticks blocks
-      → Decided started ticks (joined blocks ++ end)
+      → Decided started ticks (joinedBlocks blocks ++ end)
   unfolding orderAfter
   all-blocks started ticks count [] formed d = shared-end (phaseOf started) ticks end endShared
   all-blocks started ticks count ([] ∷ blocks) formed d = absurd (no-block (formed _ (List·Memᴰ·head refl)))
   all-blocks started ticks count ((w ∷ lead) ∷ blocks) formed d =
       let k = formed _ (List·Memᴰ·head refl) in
-      let next = tickedPorts ticks (w .number) (w .value) in
+      let next = withTicks ticks (w .number) (w .value) in
       let is : kind w ≡ Selection = ap kindOf (block-starts w lead k) ∙ selection-kind in
-      ap (λ (o : Order). orderAfter o ((lead ++ joined blocks) ++ end) .«any_order»)
+      ap (λ (o : Order). orderAfter o ((lead ++ joinedBlocks blocks) ++ end) .«any_order»)
       (step-by (orderAt true (phaseOf started) ticks) w Selection is
       ∙ fits-selection ticks count w lead blocks d started)
       ∙ ap (λ (l : List NumberedWrite). orderAfter (orderAt true InBlock next) l .«any_order»)
-      (append-assoc lead (joined blocks) end)
-      ∙ ap (λ (o : Order). o .«any_order») (lead-stays next lead (joined blocks ++ end) (block-rest w lead k))
+      (append-assoc lead (joinedBlocks blocks) end)
+      ∙ ap (λ (o : Order). o .«any_order») (lead-stays next lead (joinedBlocks blocks ++ end) (block-rest w lead k))
       ∙ all-blocks true next (all-length (w .number) (w .value) ticks ∙ count) blocks
       (λ block m. formed block (List·Memᴰ·tail m)) (λ port h. free ticks count w lead blocks d port h .left)
 
 pub layout-every : (ws : List NumberedWrite) → Layout ws → orderOf ws .«any_order» ≡ true
 unfolding firstOrder
 layout-every ws layout =
+    let start = followed (layout .start) in
+    let blocks = followedEach (layout .blocks) in
+    let end = followed (layout .end) in
     ap (λ (o : Order). o .«any_order») (sym (followed-order firstOrder ws))
-    ∙ ap (λ (l : List NumberedWrite). orderAfter firstOrder l .«any_order») (layout .parts)
-    ∙ ap (λ (o : Order). o .«any_order»)
-    (shared-start noTicks (layout .start) (joined (layout .blocks) ++ layout .end) (layout .startShared))
-    ∙ all-blocks (layout .end) (layout .endShared) false noTicks none-length (layout .blocks) (layout .setup .formed)
+    ∙ ap (λ (l : List NumberedWrite). orderAfter firstOrder l .«any_order»)
+    (ap followed (layout .parts) ∙ followed-parts (layout .start) (layout .blocks) (layout .end))
+    ∙ ap (λ (o : Order). o .«any_order») (shared-start noTicks start (joinedBlocks blocks ++ end) (layout .startShared))
+    ∙ all-blocks end (layout .endShared) false noTicks none-length blocks (layout .setup .formed)
     (λ port h. rw (none-ticked port h) (layout .setup .disjoint port h))
 
 pub any-order-exact : AnyOrderExact

@@ -5,11 +5,12 @@ pub mod OrderCases
 pub mod InsideCases
 pub mod OrderLaws
 pub mod BlockLaws
+pub mod FollowedLaws
 pub mod LayoutOnly
 pub mod LayoutEvery
 pub mod NotFollowed
 pub mod Reordered
 pub mod InsideLaws
-pub mod FindingLaws
-pub mod FindingsExplain
+pub mod BreakingWriteLaws
+pub mod BreakingWrites
 pub mod Examples

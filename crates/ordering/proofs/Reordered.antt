@@ -24,13 +24,15 @@ use Rattle.setup.proofs.Runs.{block-registers, allWrites, blocks-registers, aft
 use Rattle.setup.proofs.Selecting.{reordered}
 use Rattle.setup.proofs.Order.{alike, demand-3}
 use Rattle.origins.specs.NumberedWrites.{NumberedWrite, unnumberedWrites}
-use Rattle.origins.specs.Origins.{afterEach}
+use Rattle.origins.specs.Origins.{afterEach, FileOfBytes}
 use Rattle.origins.proofs.NumberedWrites.{unnumbered-append}
 use Rattle.ordering.specs.declared.kinds.WriteKind.the-variants.{SharedRegister}
-use Rattle.ordering.specs.Kinds.{kind}
-use Rattle.ordering.specs.Layouts.{blockOf, blocksOf, joined, AllShared, runWrites, AnyOrderHolds}
+use Rattle.ordering.specs.Kinds.{kind, followed}
+use Rattle.ordering.specs.Layouts.{blockOf, blocksOf, joinedBlocks, AllShared, followedEach, runWrites}
+use Rattle.ordering.specs.Layouts.{AnyOrderHolds}
 use Rattle.ordering.proofs.KindLaws.{shared-unpaged}
 use Rattle.ordering.proofs.BlockLaws.{block-writes}
+use Rattle.ordering.proofs.FollowedLaws.{followed-parts}
 use Rattle.ordering.proofs.NotFollowed.{followed-writes}
 
 -- writes after other writes
@@ -51,13 +53,13 @@ run-registers hub ws =
     run-block hub ws ∙ block-registers hub (blockOf ws)
     ∙ ap (λ (l : List RegisterWrite). withRegisters hub (writeEach BySelection (hub .registers) l)) (block-writes ws)
 
-all-writes : (blocks : List (List NumberedWrite)) → allWrites (blocksOf blocks) ≡ unnumberedWrites (joined blocks)
+all-writes : (blocks : List (List NumberedWrite)) → allWrites (blocksOf blocks) ≡ unnumberedWrites (joinedBlocks blocks)
 unfolding allWrites unnumberedWrites
 all-writes [] = refl
-all-writes (ws ∷ blocks) = rw (block-writes ws, all-writes blocks, unnumbered-append ws (joined blocks))
+all-writes (ws ∷ blocks) = rw (block-writes ws, all-writes blocks, unnumbered-append ws (joinedBlocks blocks))
 
 run-blocks : (hub : Hub) (blocks : List (List NumberedWrite))
-    → runBlocks hub (blocksOf blocks) ≡ withRegisters hub (afterEach (hub .registers) (joined blocks))
+    → runBlocks hub (blocksOf blocks) ≡ withRegisters hub (afterEach (hub .registers) (joinedBlocks blocks))
 run-blocks hub blocks =
     blocks-registers hub (blocksOf blocks)
     ∙ ap (λ (l : List RegisterWrite). withRegisters hub (writeEach BySelection (hub .registers) l)) (all-writes blocks)
@@ -67,6 +69,13 @@ same-order List·Permᴰ·nil = List·Permᴰ·nil
 same-order (List·Permᴰ·cons e d) = List·Permᴰ·cons (ap blockOf e) (same-order d)
 same-order (List·Permᴰ·swap e f) = List·Permᴰ·swap (ap blockOf e) (ap blockOf f)
 same-order (List·Permᴰ·trans d₁ d₂) = List·Permᴰ·trans (same-order d₁) (same-order d₂)
+
+followed-same-order : {a b : List (List NumberedWrite)} → List·Permᴰ a b
+    → List·Permᴰ (followedEach a) (followedEach b)
+followed-same-order List·Permᴰ·nil = List·Permᴰ·nil
+followed-same-order (List·Permᴰ·cons e d) = List·Permᴰ·cons (ap followed e) (followed-same-order d)
+followed-same-order (List·Permᴰ·swap e f) = List·Permᴰ·swap (ap followed e) (ap followed f)
+followed-same-order (List·Permᴰ·trans d₁ d₂) = List·Permᴰ·trans (followed-same-order d₁) (followed-same-order d₂)
 
 -- a shared write, before other writes
 after-shared : (file : RegisterFile) (w : NumberedWrite) (ws : List NumberedWrite) → kind w ≡ SharedRegister
@@ -145,7 +154,8 @@ same-after a b s (w ∷ ws) h =
 -- blocks in two orders, from the same registers
 module _ (hub : Hub) (lengths : ArrayLengths hub) (blocks other : List (List NumberedWrite))
     (k : SetupBlocks (blocksOf blocks)) (d : List·Permᴰ blocks other) where
-  same-blocks : Same (afterEach (hub .registers) (joined blocks)) (afterEach (hub .registers) (joined other))
+  same-blocks : Same (afterEach (hub .registers) (joinedBlocks blocks))
+      (afterEach (hub .registers) (joinedBlocks other))
   same-blocks =
       let ends = demand-3 hub lengths (blocksOf blocks) (blocksOf other) k (same-order d) .0 in
       let ended = rw (run-blocks hub blocks, run-blocks hub other) at ends in
@@ -156,24 +166,47 @@ module _ (hub : Hub) (lengths : ArrayLengths hub) (blocks other : List (List Num
       let cq = rw (all-writes other) at (q .sharedCount) in
       record { pages = ended .pages; count = cp ∙ sym cq; shared = ended .shared }
 
+-- shared writes, blocks in two orders, and shared writes
+module _ (hub : Hub) (lengths : ArrayLengths hub) (start : List NumberedWrite) (startShared : AllShared start)
+    (blocks other : List (List NumberedWrite)) (k : SetupBlocks (blocksOf blocks)) (d : List·Permᴰ blocks other)
+    (end : List NumberedWrite) (endShared : AllShared end) where
+  same-parts : Same (afterEach (hub .registers) (start ++ (joinedBlocks blocks ++ end)))
+      (afterEach (hub .registers) (start ++ (joinedBlocks other ++ end)))
+  same-parts =
+      let file = hub .registers in
+      let first = afterEach file start in
+      let kept = shared-lengths file start startShared in
+      let started = withRegisters hub first in
+      let startedLengths : ArrayLengths started =
+      record { shared = kept .0 ∙ lengths .shared; pages = kept .1 ∙ lengths .pages; frames = lengths .frames } in
+      rw (
+        after-append file start (joinedBlocks blocks ++ end),
+        after-append file start (joinedBlocks other ++ end),
+        after-append first (joinedBlocks blocks) end,
+        after-append first (joinedBlocks other) end,
+      )
+      (same-after _ _ (same-blocks started startedLengths blocks other k d) end endShared)
+
+-- a run of three parts leaves the registers that the writes leave of them that are followed
+run-parts : (hub : Hub) → FileOfBytes (hub .registers)
+    → (start : List NumberedWrite) (blocks : List (List NumberedWrite)) (end : List NumberedWrite)
+    → runWrites hub (start ++ (joinedBlocks blocks ++ end))
+    ≡ withRegisters hub
+    (afterEach (hub .registers) (followed start ++ (joinedBlocks (followedEach blocks) ++ followed end)))
+run-parts hub ofBytes start blocks end =
+    run-registers hub (start ++ (joinedBlocks blocks ++ end))
+    ∙ ap (withRegisters hub)
+    (followed-writes (hub .registers) ofBytes (start ++ (joinedBlocks blocks ++ end))
+    ∙ ap (afterEach (hub .registers)) (followed-parts start blocks end))
+
 pub any-order-holds : AnyOrderHolds
 any-order-holds hub lengths ofBytes ws layout other d =
-    let file = hub .registers in
-    let first = afterEach file (layout .start) in
-    let kept = shared-lengths file (layout .start) (layout .startShared) in
-    let started = withRegisters hub first in
-    let startedLengths : ArrayLengths started =
-    record { shared = kept .0 ∙ lengths .shared; pages = kept .1 ∙ lengths .pages; frames = lengths .frames } in
-    let s = same-blocks started startedLengths (layout .blocks) other (layout .setup) d in
-    let t = same-after _ _ s (layout .end) (layout .endShared) in
+    let s = same-parts hub lengths (followed (layout .start)) (layout .startShared)
+    (followedEach (layout .blocks)) (followedEach other) (layout .setup) (followed-same-order d)
+    (followed (layout .end)) (layout .endShared) in
     rw (
-      run-registers hub ws,
-      run-registers hub (layout .start ++ (joined other ++ layout .end)),
-      followed-writes file ofBytes ws,
       layout .parts,
-      after-append file (layout .start) (joined (layout .blocks) ++ layout .end),
-      after-append file (layout .start) (joined other ++ layout .end),
-      after-append first (joined (layout .blocks)) (layout .end),
-      after-append first (joined other) (layout .end),
+      run-parts hub ofBytes (layout .start) (layout .blocks) (layout .end),
+      run-parts hub ofBytes (layout .start) other (layout .end),
     )
-    (alike hub _ _ (t .pages) (t .shared))
+    (alike hub _ _ (s .pages) (s .shared))

@@ -15,7 +15,7 @@ use Rattle.ordering.specs.declared.ticks.LastTick.{LastTick}
 use Rattle.ordering.specs.declared.ticks.LastTick.the-variants.{Never, At}
 use Rattle.ordering.specs.declared.ticks.PortTick.{PortTick}
 use Rattle.ordering.specs.declared.ticks.Ticks.{Ticks}
-use Rattle.ordering.specs.Ticks.{wasTicked, noTick, noTicks, lastTick, tickedPort, tickedPorts}
+use Rattle.ordering.specs.Ticks.{wasTicked, noTick, noTicks, lastTick, withTick, withTicks}
 use Rattle.ordering.specs.Ticks.{ticksAgain, anyAgain}
 
 module _ (ticks : Ticks) where
@@ -27,13 +27,13 @@ module _ (ticks : Ticks) where
       (List·getD-eq-default (ticks .ports) noTick {n = port} (omega (arith, count)))
 
   module _ (number value port : ℕ) where
-    pub port-unticked : bit port value ≡ false → tickedPort ticks number value port ≡ ticks
-    unfolding tickedPort
+    pub port-unticked : bit port value ≡ false → withTick ticks number value port ≡ ticks
+    unfolding withTick
     port-unticked e = rw e
 
     pub port-ticked : bit port value ≡ true
-        → tickedPort ticks number value port ≡ record { ports = set (ticks .ports) port (record { last = At number }) }
-    unfolding tickedPort
+        → withTick ticks number value port ≡ record { ports = set (ticks .ports) port (record { last = At number }) }
+    unfolding withTick
     port-ticked e = rw e
 
   module _ (value port : ℕ) where
@@ -66,8 +66,8 @@ module _ (ticks : Ticks) where
 
 -- after a selection: a port that it ticks has its number, and any other keeps what it had
 module _ (number value : ℕ) where
-  one-length : (ticks : Ticks) (other : ℕ) → length (tickedPort ticks number value other .ports) ≡ length (ticks .ports)
-  unfolding tickedPort
+  one-length : (ticks : Ticks) (other : ℕ) → length (withTick ticks number value other .ports) ≡ length (ticks .ports)
+  unfolding withTick
   one-length ticks other = go (bit other value)
     where
       go : (b : Bool)
@@ -77,9 +77,9 @@ module _ (number value : ℕ) where
       go false = refl
 
   one-ticked : (ticks : Ticks) (other port : ℕ) → length (ticks .ports) ≡ 4 → other < 4
-      → lastTick (tickedPort ticks number value other) port
+      → lastTick (withTick ticks number value other) port
       ≡ cond (eqb port other && bit other value) (At number) (lastTick ticks port)
-  unfolding lastTick tickedPort
+  unfolding lastTick withTick
   one-ticked ticks other port count h = go (eqb port other) (bit other value) refl
     where
       last : PortTick → LastTick
@@ -97,28 +97,28 @@ module _ (number value : ℕ) where
       go false true e = ap last (getD-set-other (ticks .ports) other port new noTick (eqb-false port other e))
       go false false e = refl
 
-  pub all-length : (ticks : Ticks) → length (tickedPorts ticks number value .ports) ≡ length (ticks .ports)
-  unfolding tickedPorts
+  pub all-length : (ticks : Ticks) → length (withTicks ticks number value .ports) ≡ length (ticks .ports)
+  unfolding withTicks
   all-length ticks =
-      let a = tickedPort ticks number value 0 in
-      let b = tickedPort a number value 1 in
-      let d = tickedPort b number value 2 in
+      let a = withTick ticks number value 0 in
+      let b = withTick a number value 1 in
+      let d = withTick b number value 2 in
       one-length d 3 ∙ one-length b 2 ∙ one-length a 1 ∙ one-length ticks 0
 
   abbrev by : ℕ → ℕ → LastTick → LastTick
   by port other t = cond (eqb port other && bit other value) (At number) t
 
   pub all-ticked : (ticks : Ticks) → length (ticks .ports) ≡ 4 → (port : ℕ) → port < 4
-      → lastTick (tickedPorts ticks number value) port ≡ cond (bit port value) (At number) (lastTick ticks port)
-  unfolding tickedPorts
+      → lastTick (withTicks ticks number value) port ≡ cond (bit port value) (At number) (lastTick ticks port)
+  unfolding withTicks
   all-ticked ticks count port h = chain port ∙ chosen port h
     where
       chain : (p : ℕ)
-          → lastTick (tickedPorts ticks number value) p ≡ by p 3 (by p 2 (by p 1 (by p 0 (lastTick ticks p))))
+          → lastTick (withTicks ticks number value) p ≡ by p 3 (by p 2 (by p 1 (by p 0 (lastTick ticks p))))
       chain p =
-          let a = tickedPort ticks number value 0 in
-          let b = tickedPort a number value 1 in
-          let d = tickedPort b number value 2 in
+          let a = withTick ticks number value 0 in
+          let b = withTick a number value 1 in
+          let d = withTick b number value 2 in
           let ca : length (a .ports) ≡ 4 = one-length ticks 0 ∙ count in
           let cb : length (b .ports) ≡ 4 = one-length a 1 ∙ ca in
           one-ticked d 3 p (one-length b 2 ∙ cb) (omega arith)

@@ -3,5 +3,5 @@ pub mod Ticks
 pub mod Orders
 pub mod Layouts
 pub mod Inside
-pub mod Findings
+pub mod BreakingWrites
 pub mod Examples

@@ -1,4 +1,4 @@
--- How the code goes through the writes of a script. What it decides: `Layouts` and `Findings`.
+-- How the code goes through the writes of a script. What it decides: `Layouts` and `BreakingWrites`.
 -- Assumes nothing.
 use mathlib.Core.Bool.{Bool, true, false, cond, not, _&&_}
 use mathlib.Core.List.{List, [], _∷_}
@@ -15,7 +15,7 @@ use Rattle.ordering.specs.declared.Phase.{Phase}
 use Rattle.ordering.specs.declared.Phase.the-variants.{BeforeBlocks, InBlock, AfterShared}
 use Rattle.ordering.specs.declared.Order.{Order}
 use Rattle.ordering.specs.Kinds.{kindOf, isSelection, isPortRegister}
-use Rattle.ordering.specs.Ticks.{noTicks, lastTick, tickedPorts, anyAgain}
+use Rattle.ordering.specs.Ticks.{noTicks, lastTick, withTicks, anyAgain}
 
 -- where the script is after a write
 abbrev pub phaseAfter : WriteKind → Phase → Phase
@@ -42,7 +42,7 @@ fits SharedRegister phase ticks value = true
 
 abbrev pub ticksAfter : WriteKind → Ticks → ℕ → ℕ → Ticks
 ticksAfter NotFollowed ticks number value = ticks
-ticksAfter Selection ticks number value = tickedPorts ticks number value
+ticksAfter Selection ticks number value = withTicks ticks number value
 ticksAfter PortRegister ticks number value = ticks
 ticksAfter SharedRegister ticks number value = ticks
 

@@ -60,13 +60,13 @@ noTicks = record { ports = replicate 4 noTick }
 unfoldable pub lastTick : Ticks → ℕ → LastTick
 lastTick ticks port = getD (ticks .ports) port noTick .last
 
-unfoldable pub tickedPort : Ticks → ℕ → ℕ → ℕ → Ticks
-tickedPort ticks number value port =
+unfoldable pub withTick : Ticks → ℕ → ℕ → ℕ → Ticks
+withTick ticks number value port =
     cond (bit port value) (record { ports = set (ticks .ports) port (record { last = At number }) }) ticks
 
-unfoldable pub tickedPorts : Ticks → ℕ → ℕ → Ticks
-tickedPorts ticks number value =
-    tickedPort (tickedPort (tickedPort (tickedPort ticks number value 0) number value 1) number value 2) number value 3
+unfoldable pub withTicks : Ticks → ℕ → ℕ → Ticks
+withTicks ticks number value =
+    withTick (withTick (withTick (withTick ticks number value 0) number value 1) number value 2) number value 3
 
 -- a selection with this value ticks a port that was ticked before
 unfoldable pub ticksAgain : Ticks → ℕ → ℕ → Bool

@@ -1,7 +1,7 @@
 // Which selection ticked each port last: RX_WRITE_PORT_3 to 0 of the values that were written to FPD3_PORT_SEL.
 ghost use mathlib.Core.Path.{_≡_};
 ghost use Prim.Native.Nat.{_<_};
-ghost use Rattle.ordering.specs.Ticks.{noTicks, lastTick, tickedPort, tickedPorts, ticksAgain, anyAgain};
+ghost use Rattle.ordering.specs.Ticks.{noTicks, lastTick, withTick, withTicks, ticksAgain, anyAgain};
 use registers::bits;
 
 // The last selection that ticked a port: there was none, or its number.
@@ -42,7 +42,7 @@ pub fn last_tick(ticks: Ticks, port: u8) -> LastTick
 // A selection, for one port.
 fn tick_port(ticks: Ticks, number: u64, value: u8, port: u8) -> Ticks
     requires { ⌜ port < 4 ⌝ }
-    ensures { λ r. ⌜ r ≡ tickedPort ticks number value port ⌝ }
+    ensures { λ r. ⌜ r ≡ withTick ticks number value port ⌝ }
 {
     if !bits::is_set(value, port) {
         return ticks;
@@ -57,7 +57,7 @@ fn tick_port(ticks: Ticks, number: u64, value: u8, port: u8) -> Ticks
 
 // A selection with its number: it ticks ports.
 pub(crate) fn tick_ports(ticks: Ticks, number: u64, value: u8) -> Ticks
-    ensures { λ r. ⌜ r ≡ tickedPorts ticks number value ⌝ }
+    ensures { λ r. ⌜ r ≡ withTicks ticks number value ⌝ }
 {
     let port_0 = tick_port(ticks, number, value, 0);
     let port_1 = tick_port(port_0, number, value, 1);

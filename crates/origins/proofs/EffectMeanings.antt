@@ -20,7 +20,7 @@ use Rattle.ports.proofs.PortMasks.{mask-bits, empty-mask}
 use Rattle.origins.specs.Origins.{Register, sharedRegister, portRegister, IsRegister}
 use Rattle.origins.specs.Origins.{valueAt, reaches, FileOfBytes}
 use Rattle.origins.specs.Effects.{changes, portsEffect, sharedEffect, effectOf}
-use Rattle.origins.specs.Effects.{EffectMeans, EveryEffectMeans, ChangedWhereReached}
+use Rattle.origins.specs.Effects.{TickedPort, EffectMeans, EveryEffectMeans, ChangedWhereReached}
 use Rattle.origins.proofs.Reaching.{reaches-none, reaches-unticked, reaches-shared, no-shared, reaches-ports}
 use Rattle.origins.proofs.OneWrite.{mask-byte, written-where-reached}
 use Rattle.origins.proofs.EffectLaws.{effect-none, effect-ports, effect-shared}
@@ -41,6 +41,24 @@ selects file f value r port h =
     ap (bit port) held
     ∙ masked-bit (maskOf FPD3-PORT-SEL) (mask-byte FPD3-PORT-SEL (lit< tt)) port (selection file) value (omega arith)
     ∙ ap (λ (b : Bool). cond b (bit port value) (bit port (selection file))) (ports-writable port h)
+
+-- a port that is ticked, where not all four are unticked
+ticked-port : (file : RegisterFile) → (portMask (λ port. bit port (selection file)) ≡ 0 → ⊥) → TickedPort file
+unfolding portMask
+ticked-port file some = go (ticked 0) (ticked 1) (ticked 2) (ticked 3) refl refl refl refl
+  where
+    ticked : ℕ → Bool
+    ticked port = bit port (selection file)
+
+    at : (port : ℕ) → port < 4 → ticked port ≡ true → TickedPort file
+    at port h e = record { port = port; within = h; ticked = e }
+
+    go : (a b c d : Bool) → ticked 0 ≡ a → ticked 1 ≡ b → ticked 2 ≡ c → ticked 3 ≡ d → TickedPort file
+    go true b c d e0 e1 e2 e3 = at 0 (lit< tt) e0
+    go false true c d e0 e1 e2 e3 = at 1 (lit< tt) e1
+    go false false true d e0 e1 e2 e3 = at 2 (lit< tt) e2
+    go false false false true e0 e1 e2 e3 = at 3 (lit< tt) e3
+    go false false false false e0 e1 e2 e3 = absurd (some (rw (e0, e1, e2, e3)))
 
 module _ (file : RegisterFile) (f : FileOfBytes file) (offset value : ℕ) where
   kept : (register : Register) → IsRegister register → reaches file offset register ≡ false
@@ -70,6 +88,7 @@ module _ (file : RegisterFile) (f : FileOfBytes file) (offset value : ℕ) where
           rw (ports-some file offset value writable p refl (eqb-false reached 0 e) refl refl refl)
           (record {
             paged = p;
+            somePort = ticked-port file (eqb-false reached 0 e);
             ticked = λ port h. mask-bits (λ q. bit q (selection file)) .bits port h;
             reached = λ port h. mask-bits (λ q. bit q (selection file)) .bits port h
                 ∙ sym (reaches-ports file offset writable p port);

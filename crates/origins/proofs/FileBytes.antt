@@ -1,4 +1,4 @@
--- What holds of a register file by its type holds after a write.
+-- What holds of a register file by its type holds at reset, and after a write.
 -- Assumes nothing.
 use mathlib.Core.Path.{_≡_, refl, _∙_}
 use mathlib.Core.Bool.{Bool, true, false}
@@ -9,11 +9,16 @@ use borrow.Author.Tests.{ltb-true, ltb-false}
 use lib.Dec.{ltb}
 use lib.ListN.{length, getD, List·getD-eq-default}
 use Rattle.laws.specs.Elements.{AreBytes}
+use Rattle.laws.proofs.Tables.{tabulate-at}
 use Rattle.registers.specs.declared.RegisterFile.{RegisterFile}
+use Rattle.registers.specs.RegisterMap.{resetOf}
+use Rattle.registers.specs.RegisterFiles.{pageResetAt, resetFile}
 use Rattle.registers.specs.Bursts.{writeEach}
+use Rattle.registers.proofs.RegisterMap.{reset-byte}
+use Rattle.registers.proofs.RegisterFiles.{reset-lengths}
 use Rattle.origins.specs.NumberedWrites.{NumberedWrite, unnumberedWrites}
 use Rattle.origins.specs.Origins.{Register, sharedRegister, portRegister, IsRegister, valueAt}
-use Rattle.origins.specs.Origins.{reaches, afterNumbered, FileOfBytes, BytesKept}
+use Rattle.origins.specs.Origins.{reaches, afterNumbered, FileOfBytes, ResetOfBytes, BytesKept}
 use Rattle.origins.proofs.OneWrite.{counts, value-byte}
 use Rattle.origins.proofs.Origins.{after-one, byte-after}
 
@@ -27,6 +32,19 @@ all-bytes l n count each i = go (ltb i n) refl
         let past : length l ≤ i = omega (arith, count, ltb-false i n e) in
         let none : getD l i 0 ≡ 0 = List·getD-eq-default l 0 past in
         omega arith
+
+pub reset-of-bytes : ResetOfBytes
+unfolding resetFile pageResetAt
+reset-of-bytes =
+    record {
+      sharedCount = reset-lengths .0;
+      pageCount = reset-lengths .1;
+      sharedBytes = all-bytes (resetFile .shared) 256 (reset-lengths .0)
+          (λ i h. rw (tabulate-at (resetOf 0) 256 i h) (reset-byte 0 i (omega arith) h));
+      pageBytes = all-bytes (resetFile .pages) 1024 (reset-lengths .1)
+          (λ i (h : i < 1024).
+          rw (tabulate-at pageResetAt 1024 i h) (reset-byte (i / 256) (i % 256) (omega arith) (omega arith)));
+    }
 
 module _ (file : RegisterFile) (f : FileOfBytes file) (write : NumberedWrite) where
   register-byte : (register : Register) → IsRegister register → valueAt (afterNumbered file write) register < 256

@@ -2,7 +2,7 @@
 -- Assumes nothing.
 use mathlib.Core.Path.{_≡_, refl, ap, _∙_}
 use mathlib.Core.Bool.{Bool, true, false, cond}
-use mathlib.Core.List.{List, [], _∷_, _++_}
+use mathlib.Core.List.{List, [], _∷_, _++_, List·Memᴰ, List·Memᴰ·head, Memᴰ·append-right}
 use mathlib.Core.Option.{Option, none, some}
 use Rattle.laws.proofs.Absurd.{zero-not-one}
 use Rattle.registers.specs.declared.RegisterFile.{RegisterFile}
@@ -87,6 +87,11 @@ module _ (register : Register) where
       go (some w) b l r e ih = later-is file first write writes (ih (l ∙ e))
       go none true l r e ih = let q : first ≡ write = cc in rw (← q) (first-is file first writes r l)
       go none false l r e ih = zero-not-one (cc)
+
+-- it is one of the writes
+pub last-among : {file : RegisterFile} {writes : List NumberedWrite} {register : Register} {write : NumberedWrite}
+    → LastReaching file writes register write → List·Memᴰ write writes
+last-among l = rw (l .split) (Memᴰ·append-right (l .earlier) (List·Memᴰ·head refl))
 
 pub every-origin-is-last : EveryOriginIsLast
 every-origin-is-last file writes register =

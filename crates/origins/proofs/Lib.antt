@@ -5,6 +5,7 @@ pub mod LastWrites
 pub mod Origins
 pub mod FileBytes
 pub mod KeptOrigins
+pub mod KeptNumbers
 pub mod EffectLaws
 pub mod EffectMeanings
 pub mod IgnoredBits

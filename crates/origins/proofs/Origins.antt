@@ -5,20 +5,17 @@ use mathlib.Core.Bool.{Bool, true, false, cond}
 use mathlib.Core.List.{List, [], _∷_, _++_}
 use mathlib.Core.Option.{Option, none, some}
 use Prim.Native.Nat.{ℕ, _<_}
-use borrow.Author.Tests.{eqb-true}
-use lib.Dec.{eqb}
 use lib.ListN.{length}
 use Rattle.laws.specs.MaskedWrites.{masked}
-use Rattle.laws.proofs.Bools.{both}
 use Rattle.laws.proofs.MaskedWrites.{masked-byte, masked-again}
 use Rattle.registers.specs.declared.RegisterFile.{RegisterFile}
 use Rattle.registers.specs.declared.PageAccess.the-variants.{Selection}
 use Rattle.registers.specs.RegisterMap.{maskOf}
 use Rattle.registers.specs.Bursts.{writeEach}
 use Rattle.origins.specs.NumberedWrites.{NumberedWrite, unnumberedWrites}
-use Rattle.origins.specs.Origins.{Register, sharedRegister, portRegister, offsetOf, IsRegister, valueAt, reaches}
+use Rattle.origins.specs.Origins.{Register, offsetOf, IsRegister, valueAt, reaches}
 use Rattle.origins.specs.Origins.{afterNumbered, afterEach, laterOr, originOf, valueFrom, OriginExplains}
-use Rattle.origins.proofs.Reaching.{offset-byte}
+use Rattle.origins.proofs.Reaching.{offset-byte, reached-offset}
 use Rattle.origins.proofs.OneWrite.{mask-byte, counts, written, value-byte}
 
 -- the later one of several
@@ -33,12 +30,6 @@ or-or (some write) b c = refl
 module _ (register : Register) (h : IsRegister register) where
   mask-small : maskOf (offsetOf register) < 256
   mask-small = mask-byte (offsetOf register) (offset-byte register h)
-
-  -- a write that reaches the register has its offset
-  own-offset : (file : RegisterFile) (at : ℕ) (r : Register) → reaches file at r ≡ true → offsetOf r ≡ at
-  unfolding reaches
-  own-offset file at (sharedRegister offset) e = eqb-true offset at (both (eqb offset at) _ (both _ _ e .0) .0)
-  own-offset file at (portRegister port offset) e = eqb-true offset at (both (eqb offset at) _ (both _ _ e .0) .0)
 
   -- what the register holds after one write
   pub after-one : (file : RegisterFile) → length (file .shared) ≡ 256 → length (file .pages) ≡ 1024
@@ -56,7 +47,7 @@ module _ (register : Register) (h : IsRegister register) where
       go : (b : Bool) → reaches file (write .offset) register ≡ b
           → cond b (masked (maskOf (write .offset)) x (write .value)) x
           ≡ cond b (masked (maskOf (offsetOf register)) x (write .value)) x
-      go true e = rw (own-offset file (write .offset) register e)
+      go true e = rw (reached-offset file (write .offset) register e)
       go false e = refl
 
   pub byte-after : (b : Bool) (x value : ℕ) → x < 256 → cond b (masked (maskOf (offsetOf register)) x value) x < 256

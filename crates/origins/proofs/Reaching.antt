@@ -3,10 +3,10 @@
 use mathlib.Core.Path.{_≡_, refl}
 use mathlib.Core.Bool.{true, false}
 use Prim.Native.Nat.{ℕ, _<_}
-use borrow.Author.Tests.{eq-eqb, ne-eqb}
+use borrow.Author.Tests.{eqb-true, eq-eqb, ne-eqb}
 use lib.Dec.{eqb}
 use Rattle.laws.specs.Bits.{bit}
-use Rattle.laws.proofs.Bools.{never}
+use Rattle.laws.proofs.Bools.{both, never}
 use Rattle.registers.specs.declared.RegisterFile.{RegisterFile}
 use Rattle.registers.specs.RegisterMap.{maskOf, perPort}
 use Rattle.registers.specs.RegisterFiles.{selection}
@@ -31,6 +31,12 @@ module _ (file : RegisterFile) (at : ℕ) where
   unfolding reaches
   reaches-other (sharedRegister offset) e = rw e
   reaches-other (portRegister port offset) e = rw e
+
+  -- so one that is reached has the write's offset
+  pub reached-offset : (register : Register) → reaches file at register ≡ true → offsetOf register ≡ at
+  unfolding reaches
+  reached-offset (sharedRegister offset) e = eqb-true offset at (both (eqb offset at) _ (both _ _ e .0) .0)
+  reached-offset (portRegister port offset) e = eqb-true offset at (both (eqb offset at) _ (both _ _ e .0) .0)
 
   -- a register of a port that is not ticked
   pub reaches-unticked : (port offset : ℕ) → bit port (selection file) ≡ false

@@ -81,11 +81,18 @@ pub record MeansShared (file : RegisterFile) (offset value : ℕ) (isChanged isI
   pub changed : isChanged ≡ changes file offset value (sharedRegister offset)
   pub ignored : isIgnored ≡ ignoresBits offset value
 
--- bit p of the first mask is set exactly where port p is ticked, which is where its register is reached; and bit p of
--- the second one exactly where after the write the port's register differs from before
+-- a port that is ticked
+pub record TickedPort (file : RegisterFile) : Type 0 where
+  pub port : ℕ
+  pub within : port < 4
+  pub ticked : bit port (selection file) ≡ true
+
+-- some port is ticked; bit p of the first mask is set exactly where port p is, which is where its register is reached;
+-- and bit p of the second one exactly where after the write the port's register differs from before
 pub record MeansPorts (file : RegisterFile) (offset value reachedMask changedMask : ℕ) (isIgnored : Bool)
     : Type 0 where
   pub paged : perPort offset ≡ true
+  pub somePort : TickedPort file
   pub ticked : (port : ℕ) → port < 4 → bit port reachedMask ≡ bit port (selection file)
   pub reached : (port : ℕ) → port < 4 → bit port reachedMask ≡ reaches file offset (portRegister port offset)
   pub changed : (port : ℕ) → port < 4 → bit port changedMask ≡ changes file offset value (portRegister port offset)

@@ -2,9 +2,9 @@
 -- Assumes nothing.
 use mathlib.Core.Path.{_≡_}
 use mathlib.Core.Bool.{cond}
-use mathlib.Core.List.{List, [], _∷_}
+use mathlib.Core.List.{List, [], _∷_, List·Memᴰ}
 use mathlib.Core.Option.{Option, none, some}
-use Prim.Native.Nat.{ℕ, zero, suc}
+use Prim.Native.Nat.{ℕ, zero, suc, _≤_}
 use lib.ListN.{getD, set, replicate}
 use Rattle.registers.specs.declared.RegisterFile.{RegisterFile}
 use Rattle.registers.specs.declared.PageAccess.the-variants.{Selection}
@@ -13,7 +13,7 @@ use Rattle.origins.specs.declared.OffsetOrigins.{OffsetOrigins}
 use Rattle.origins.specs.declared.RegistersWithOrigins.{RegistersWithOrigins}
 use Rattle.origins.specs.NumberedWrites.{NumberedWrite, numberedBurst}
 use Rattle.origins.specs.Origins.{Register, sharedRegister, portRegister, offsetOf, IsRegister}
-use Rattle.origins.specs.Origins.{reaches, afterNumbered, afterEach, originOf}
+use Rattle.origins.specs.Origins.{reaches, afterNumbered, afterEach, originOf, NoneReaches, LastReaching}
 
 -- 0 for none
 abbrev pub noOrigins : OffsetOrigins
@@ -81,6 +81,26 @@ pub record OriginsKept (start : RegisterFile) (writes : List NumberedWrite) : Ty
 
 abbrev pub EveryOriginKept : Type 0
 EveryOriginKept = (start : RegisterFile) (writes : List NumberedWrite) → OriginsKept start writes
+
+-- lines and records are counted from 1
+abbrev pub CountedFromOne : List NumberedWrite → Type 0
+CountedFromOne writes = (write : NumberedWrite) → List·Memᴰ write writes → 1 ≤ write .number
+
+-- the number is 0 exactly where no write reaches the register, and otherwise that of the last write that reaches it
+pub record NumberMeans (start : RegisterFile) (writes : List NumberedWrite) (register : Register) (number : ℕ)
+    : Type 0 where
+  pub onlyNone : number ≡ 0 → NoneReaches start writes register
+  pub everyNone : NoneReaches start writes register → number ≡ 0
+  pub onlyLast : 1 ≤ number
+      → (write : NumberedWrite) × LastReaching start writes register write × (write .number ≡ number)
+  pub everyLast : (write : NumberedWrite) → LastReaching start writes register write → write .number ≡ number
+
+-- So the number kept for a register tells all of its origin, from any start and after any writes.
+abbrev pub EveryNumberMeans : Type 0
+EveryNumberMeans =
+    (start : RegisterFile) (writes : List NumberedWrite) → CountedFromOne writes
+    → (register : Register) → IsRegister register
+    → NumberMeans start writes register (keptNumber (writeNumberedEach (startWith start) writes) register)
 
 -- A burst with one number writes the registers as a burst does.
 abbrev pub BurstRegisters : Type 0

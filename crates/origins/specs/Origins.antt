@@ -13,7 +13,7 @@ use Rattle.laws.specs.MaskedWrites.{masked}
 use Rattle.registers.specs.declared.RegisterFile.{RegisterFile}
 use Rattle.registers.specs.declared.PageAccess.the-variants.{Selection}
 use Rattle.registers.specs.RegisterMap.{maskOf, perPort}
-use Rattle.registers.specs.RegisterFiles.{sharedAt, pageAt, selection, writeRegister}
+use Rattle.registers.specs.RegisterFiles.{sharedAt, pageAt, resetFile, selection, writeRegister}
 use Rattle.registers.specs.Bursts.{writeEach}
 use Rattle.origins.specs.NumberedWrites.{NumberedWrite, unnumberedWrites}
 
@@ -106,7 +106,11 @@ pub record FileOfBytes (file : RegisterFile) : Type 0 where
   pub sharedBytes : AreBytes (file .shared)
   pub pageBytes : AreBytes (file .pages)
 
--- It holds of every register file that writes lead to.
+-- It holds of the registers at reset,
+abbrev pub ResetOfBytes : Type 0
+ResetOfBytes = FileOfBytes resetFile
+
+-- and of every register file that writes lead to.
 abbrev pub BytesKept : Type 0
 BytesKept =
     (file : RegisterFile) → FileOfBytes file → (writes : List NumberedWrite) → FileOfBytes (afterEach file writes)

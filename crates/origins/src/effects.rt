@@ -49,7 +49,7 @@ fn ignores_bits(offset: u8, value: u8) -> bool
 fn selected_ports(selection: u8) -> u8
     ensures { λ r. ⌜ r ≡ portMask (λ port. bit port selection) ⌝ }
 {
-    ports::mask_of(
+    ports::mask_of_four(
         bits::is_set(selection, 0),
         bits::is_set(selection, 1),
         bits::is_set(selection, 2),
@@ -70,7 +70,7 @@ fn port_differs(before: RegisterFile, after: RegisterFile, port: u8, offset: u8)
 fn differing_ports(before: RegisterFile, after: RegisterFile, offset: u8) -> u8
     ensures { λ r. ⌜ r ≡ portMask (λ port. differs before after (portRegister port offset)) ⌝ }
 {
-    ports::mask_of(
+    ports::mask_of_four(
         port_differs(before, after, 0, offset),
         port_differs(before, after, 1, offset),
         port_differs(before, after, 2, offset),

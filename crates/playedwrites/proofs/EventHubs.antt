@@ -9,7 +9,8 @@ use Rattle.formats.specs.Formats.{formatOf}
 use Rattle.hub.specs.declared.Hub.{Hub}
 use Rattle.hub.specs.declared.LastFrame.{LastFrame}
 use Rattle.hub.specs.declared.LastFrame.the-variants.{NoFrame, Closed, Open}
-use Rattle.frames.specs.Events.{Event, startEvent, pixelLineEvent, endEvent, Outcome, lastFrame, openedWith, closedWith, hubAfter}
+use Rattle.frames.specs.Events.{Event, startEvent, pixelLineEvent, endEvent, Outcome}
+use Rattle.frames.specs.Events.{lastFrame, openedWith, closedWith, hubAfter}
 
 opened-address : (hub : Hub) (port : ℕ) (reply : Reply Format) → openedWith hub port reply .address ≡ hub .address
 opened-address hub port (refusedWith number detail) = refl
@@ -20,7 +21,8 @@ closed-address hub port NoFrame = refl
 closed-address hub port (Closed format number) = refl
 closed-address hub port (Open format number) = refl
 
-pub events-keep-address : (hub : Hub) (event : Event) (reply : Reply (Outcome (List ℕ))) → hubAfter hub event reply .address ≡ hub .address
+pub events-keep-address : (hub : Hub) (event : Event) (reply : Reply (Outcome (List ℕ)))
+    → hubAfter hub event reply .address ≡ hub .address
 events-keep-address hub event (refusedWith number detail) = refl
 events-keep-address hub (startEvent port bits) (given outcome) = opened-address hub port (formatOf bits)
 events-keep-address hub (pixelLineEvent port pixels) (given outcome) = refl

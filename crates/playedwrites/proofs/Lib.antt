@@ -1,2 +1,4 @@
 pub mod EventHubs
+pub mod Endings
 pub mod PlayedLaws
+pub mod EndedRuns

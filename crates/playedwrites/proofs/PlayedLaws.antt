@@ -1,37 +1,45 @@
--- The records of some bytes, taken for their writes and played, go together: the same registers and address, or the same end.
+-- The records of some bytes, taken for their writes and played, go together: the same registers and address, or the
+-- same end.
 -- Assumes nothing.
-use mathlib.Core.Path.{_≡_, refl, ap, _∙_}
+use mathlib.Core.Path.{_≡_, refl, sym, ap, _∙_}
 use mathlib.Core.Bool.{Bool, true, false, cond}
 use mathlib.Core.List.{List, [], _∷_, _++_}
-use mathlib.Core.Option.{some}
+use mathlib.Core.Option.{Option, some}
 use Prim.Native.Nat.{ℕ, zero, suc, _+_, _*_, _≤_}
 use native.Mathlib.Omega.{arith}
-use borrow.Author.Tests.{eqb-false, ne-eqb}
+use borrow.Author.Tests.{eqb-true, eqb-false, ne-eqb}
 use lib.Dec.{eqb}
 use lib.ListN.{length, getD, drop, replicate}
-use Rattle.laws.specs.Reply.{Reply, refusedWith, refused, refusedAt, given, andThen}
+use Rattle.laws.specs.Reply.{Reply, refusedWith, refused, refusedAt, given, onReply, andThen}
 use Rattle.laws.proofs.Absurd.{zero-not-one}
 use Rattle.registers.specs.declared.PageAccess.the-variants.{Selection}
 use Rattle.registers.specs.RegisterFiles.{resetFile}
 use Rattle.registers.specs.Bursts.{burstWrites}
 use Rattle.registers.proofs.Bursts.{writes-none, writes-append}
 use Rattle.hub.specs.declared.Hub.{Hub}
-use Rattle.hub.specs.Hubs.{hubWith, hubAt, isHubAddress, creationWith, hubBurst}
+use Rattle.hub.specs.Hubs.{hubWith, hubAt, isHubAddress, creationWith, hubBurst, hubRead}
 use Rattle.hub.proofs.Hubs.{burst-registers}
+use Rattle.translation.specs.Translation.{whoHearsWrite, whoAnswersRead}
 use Rattle.origins.specs.NumberedWrites.{NumberedWrite, unnumberedWrites, numberedBurst}
 use Rattle.origins.specs.Origins.{afterEach}
 use Rattle.origins.proofs.NumberedWrites.{unnumbered-append, unnumbered-as}
-use Rattle.frames.specs.Events.{Event, startEvent, pixelLineEvent, endEvent, eventReply, hubAfter}
+use Rattle.frames.specs.Events.{Event, startEvent, pixelLineEvent, endEvent, eventReply, hubAfter, bufferAfter}
 use Rattle.frames.proofs.EventLaws.{events-keep-registers}
 use Rattle.trace.specs.Framing.{recordLength, dataOf}
 use Rattle.trace.specs.Records.{TraceRecord, hubRecord, writeRecord, recordOf}
-use Rattle.trace.proofs.KindLaws.{by-record}
-use Rattle.tracewrites.specs.TraceWrites.{TraceWrites, noWrites, withHub, withBurst, atRecord, afterAsked, afterRecord, afterRecords, traceWrites}
-use Rattle.answers.specs.Answers.{Answer, hubMade}
-use Rattle.playback.specs.Playing.{PlayedRecords, noneLeft, answerThen, playHub, playAsked, playRecord, playRecords, packetRoom, playFile}
+use Rattle.trace.proofs.KindLaws.{by-record, by-first}
+use Rattle.tracewrites.specs.TraceWrites.{TraceWrites, noWrites, withHub, withBurst, atRecord}
+use Rattle.tracewrites.specs.TraceWrites.{afterAsked, afterRecord, afterRecords, traceWrites}
+use Rattle.answers.specs.declared.EventKind.{EventKind}
+use Rattle.answers.specs.declared.EventKind.the-variants.{Start, PixelLine, End}
+use Rattle.answers.specs.Answers.{Answer, hubMade, valuesWritten, registerRead, writeHeard, readAnswered}
+use Rattle.playback.specs.Playing.{PlayedRecords, noneLeft, answerThen, playHub, eventShown, playAsked, playRecord}
+use Rattle.playback.specs.Playing.{playRecords, packetRoom, playFile}
 use Rattle.playback.proofs.PlayingLaws.{playedThen}
-use Rattle.playedwrites.specs.PlayedWrites.{WritesArePlayed, RefusedWhereRunEnds}
+use Rattle.playedwrites.specs.PlayedWrites.{endsRun, WritesArePlayed}
 use Rattle.playedwrites.proofs.EventHubs.{events-keep-address}
+use Rattle.playedwrites.proofs.Endings.{NotEnding, NoneEnds}
+use Rattle.playedwrites.proofs.Endings.{write-not-ending, read-not-ending, event-not-ending}
 
 -- The writes so far, and the player's hub: at first there is none, so that the first record may make the hub.
 record Together (first : Bool) (before : TraceWrites) (hub : Hub) : Type 0 where
@@ -39,23 +47,44 @@ record Together (first : Bool) (before : TraceWrites) (hub : Hub) : Type 0 where
   registers : hub .registers ≡ afterEach resetFile (before .writes)
   none : first ≡ true → before .writes ≡ []
 
--- the end of both, after so many records: the same registers and address, or the record that is refused is the player's last
-abbrev Ends : ℕ → Reply TraceWrites → PlayedRecords → Type 0
-Ends records (given after) played = (played .hub .address ≡ after .hub) × (played .hub .registers ≡ afterEach resetFile (after .writes))
-Ends records (refusedWith number detail) played =
-    (earlier : List (Reply Answer)) × (played .answers ≡ earlier ++ (refused number ∷ [])) × (detail ≡ some (records + length earlier + 1))
+-- the end of both, after so many records: the same registers and address, and no record ends the run; or the record
+-- that is refused is the player's last, which ends it
+pub record Given (records : ℕ) (after : TraceWrites) (played : PlayedRecords) : Type 0 where
+  pub address : played .hub .address ≡ after .hub
+  pub registers : played .hub .registers ≡ afterEach resetFile (after .writes)
+  pub going : NoneEnds records (played .answers)
+
+pub record Refused (records number : ℕ) (detail : Option ℕ) (played : PlayedRecords) : Type 0 where
+  pub earlier : List (Reply Answer)
+  pub answers : played .answers ≡ earlier ++ (refused number ∷ [])
+  pub count : detail ≡ some (records + length earlier + 1)
+  pub ending : endsRun number (records + length earlier + 1) ≡ true
+
+abbrev pub Ends : ℕ → Reply TraceWrites → PlayedRecords → Type 0
+Ends records (given after) played = Given records after played
+Ends records (refusedWith number detail) played = Refused records number detail played
 
 -- after a record that does not end the run
-ends-later : (records : ℕ) (answer : Reply Answer) (reply : Reply TraceWrites) (later : PlayedRecords) → Ends (records + 1) reply later
+ends-later : (records : ℕ) (answer : Reply Answer) → NotEnding (records + 1) answer
+    → (reply : Reply TraceWrites) (later : PlayedRecords) → Ends (records + 1) reply later
     → Ends records reply (answerThen answer later)
-ends-later records answer (given after) later e = e
-ends-later records answer (refusedWith number detail) later e =
-    let more : records + 1 + length (e .0) + 1 ≡ records + length (answer ∷ e .0) + 1 = omega arith in
-    (answer ∷ e .0, ap (λ (l : List (Reply Answer)). answer ∷ l) (e .1), e .2 ∙ ap some more)
+ends-later records answer on (given after) later e =
+    record { address = e .address; registers = e .registers; going = (on, e .going) }
+ends-later records answer on (refusedWith number detail) later e =
+    let more : records + 1 + length (e .earlier) + 1 ≡ records + length (answer ∷ e .earlier) + 1 = omega arith in
+    record {
+      earlier = answer ∷ e .earlier;
+      answers = ap (λ (l : List (Reply Answer)). answer ∷ l) (e .answers);
+      count = e .count ∙ ap some more;
+      ending = ap (endsRun number) (sym more) ∙ e .ending;
+    }
 
 -- at a record that ends the run
-ends-here : (records number : ℕ) (hub : Hub) → Ends records (refusedWith number (some (records + 1))) (answerThen (refused number) (noneLeft hub))
-ends-here records number hub = let same : records + 1 ≡ records + 0 + 1 = omega arith in ([], refl, ap some same)
+ends-here : (records number : ℕ) (hub : Hub) → endsRun number (records + 1) ≡ true
+    → Ends records (refusedWith number (some (records + 1))) (answerThen (refused number) (noneLeft hub))
+ends-here records number hub ending =
+    let same : records + 1 ≡ records + 0 + 1 = omega arith in
+    record { earlier = []; answers = refl; count = ap some same; ending = ap (endsRun number) (sym same) ∙ ending }
 
 -- no writes
 none-after : (writes : List NumberedWrite) → writes ≡ [] → resetFile ≡ afterEach resetFile writes
@@ -63,9 +92,11 @@ unfolding unnumberedWrites
 none-after writes e = rw (e, writes-none Selection resetFile)
 
 -- one record, and what comes after it
-module _ (n records : ℕ) (before : TraceWrites) (hub : Hub) (packets bytes : List ℕ) (so : Together (eqb records 0) before hub)
-    (later : (after : TraceWrites) (hub : Hub) (packets : List ℕ) → Together false after hub
-    → Ends (records + 1) (afterRecords n (records + 1) after (drop (recordLength bytes) bytes)) (playRecords n false hub packets (drop (recordLength bytes) bytes))) where
+module _ (n records : ℕ) (before : TraceWrites) (hub : Hub) (packets bytes : List ℕ)
+    (so : Together (eqb records 0) before hub)
+    (later : (after : TraceWrites) (hub : Hub) (packets : List ℕ) → Together false after hub →
+    let rest = drop (recordLength bytes) bytes in
+    Ends (records + 1) (afterRecords n (records + 1) after rest) (playRecords n false hub packets rest)) where
   abbrev rest : List ℕ
   rest = drop (recordLength bytes) bytes
 
@@ -76,24 +107,37 @@ module _ (n records : ℕ) (before : TraceWrites) (hub : Hub) (packets bytes : L
       (playedThen played (playRecords n false (played .hub) (played .packets) rest))
 
   -- a record that writes nothing
-  same-later : (answer : Reply Answer) (next : Hub) (lent : List ℕ) → next .address ≡ hub .address → next .registers ≡ hub .registers
+  same-later : (answer : Reply Answer) → NotEnding (records + 1) answer → (next : Hub) (lent : List ℕ)
+      → next .address ≡ hub .address → next .registers ≡ hub .registers
       → Ends records (afterRecords n (records + 1) before rest) (answerThen answer (playRecords n false next lent rest))
-  same-later answer next lent a r =
-      ends-later records answer (afterRecords n (records + 1) before rest) (playRecords n false next lent rest)
-      (later before next lent (record { address = a ∙ so .address; registers = r ∙ so .registers; none = λ e. zero-not-one (cc) }))
+  same-later answer on next lent a r =
+      ends-later records answer on (afterRecords n (records + 1) before rest) (playRecords n false next lent rest)
+      (later before next lent
+      (record { address = a ∙ so .address; registers = r ∙ so .registers; none = λ e. zero-not-one (cc) }))
 
   one-hub : (address : ℕ) → eqb records 0 ≡ true → One (given (hubRecord address))
   unfolding afterAsked playAsked creationWith hubWith
   one-hub address first = go (isHubAddress address)
     where
+      ending : endsRun 2 (records + 1) ≡ true
+      ending = let zero = eqb-true records 0 first in rw zero
+
       go : (allowed : Bool) →
           let played = playHub hub packets address (cond allowed (given (hubWith resetFile address)) (refused 2)) in
-          Ends records (andThen (atRecord (records + 1) (cond allowed (given (withHub address before)) (refused 2))) (λ after. afterRecords n (records + 1) after rest))
+          Ends records
+          (andThen (atRecord (records + 1) (cond allowed (given (withHub address before)) (refused 2)))
+          (λ after. afterRecords n (records + 1) after rest))
           (playedThen played (playRecords n false (played .hub) (played .packets) rest))
       go true =
-          ends-later records (given (hubMade address)) (afterRecords n (records + 1) (withHub address before) rest) (playRecords n false (hubAt address) packets rest)
-          (later (withHub address before) (hubAt address) packets (record { address = refl; registers = none-after (before .writes) (so .none first); none = λ e. zero-not-one (cc) }))
-      go false = ends-here records 2 hub
+          ends-later records (given (hubMade address)) tt (afterRecords n (records + 1) (withHub address before) rest)
+          (playRecords n false (hubAt address) packets rest)
+          (later (withHub address before) (hubAt address) packets
+          (record {
+            address = refl;
+            registers = none-after (before .writes) (so .none first);
+            none = λ e. zero-not-one (cc);
+          }))
+      go false = ends-here records 2 hub ending
 
   one-write : (offset : ℕ) (values : List ℕ) → One (given (writeRecord offset values))
   unfolding afterAsked playAsked
@@ -103,7 +147,8 @@ module _ (n records : ℕ) (before : TraceWrites) (hub : Hub) (packets bytes : L
       let number = numberedBurst (records + 1) offset values in
       let here = burstWrites offset values in
       let written = burst-registers hub offset values in
-      ends-later records _ (afterRecords n (records + 1) after rest) (playRecords n false next packets rest)
+      ends-later records (given (valuesWritten offset (length values))) tt (afterRecords n (records + 1) after rest)
+      (playRecords n false next packets rest)
       (later after next packets
       (record {
         address = rw written (so .address);
@@ -118,46 +163,67 @@ module _ (n records : ℕ) (before : TraceWrites) (hub : Hub) (packets bytes : L
         none = λ e. zero-not-one (cc);
       }))
 
-  one-event : (answer : Reply Answer) (event : Event) (lent : List ℕ) →
-      let next = hubAfter hub event (eventReply hub event (length packets) 0) in
-      Ends records (afterRecords n (records + 1) before rest) (answerThen answer (playRecords n false next lent rest))
-  one-event answer event lent =
+  one-event : eqb records 0 ≡ false → (kind : EventKind) (port : ℕ) (event : Event) →
       let reply = eventReply hub event (length packets) 0 in
-      same-later answer (hubAfter hub event reply) lent (events-keep-address hub event reply) (events-keep-registers hub event reply)
+      Ends records (afterRecords n (records + 1) before rest)
+      (answerThen (onReply (eventShown kind port) reply)
+      (playRecords n false (hubAfter hub event reply) (bufferAfter packets 0 reply) rest))
+  one-event f kind port event =
+      let reply = eventReply hub event (length packets) 0 in
+      same-later (onReply (eventShown kind port) reply)
+      (event-not-ending records f hub event (length packets) (eventShown kind port))
+      (hubAfter hub event reply) (bufferAfter packets 0 reply)
+      (events-keep-address hub event reply) (events-keep-registers hub event reply)
 
   one : One (recordOf (eqb records 0) bytes)
   unfolding afterAsked playAsked
-  one =
-      let d = dataOf bytes in
-      let line = pixelLineEvent (getD d 0 0) (replicate (getD d 1 0 + 256 * getD d 2 0) (getD d 3 0 + 256 * getD d 4 0)) in
-      by-record One (ends-here records 13 hub) (eqb records 0) bytes (λ e. one-hub (getD d 0 0) e) (one-write (getD d 0 0) (drop 1 d))
-      (same-later _ hub packets refl refl) (same-later _ hub packets refl refl) (same-later _ hub packets refl refl)
-      (one-event _ (startEvent (getD d 0 0) (getD d 1 0)) _) (one-event _ (endEvent (getD d 0 0)) _) (one-event _ line _)
+  one = go (eqb records 0) refl
+    where
+      d : List ℕ
+      d = dataOf bytes
+
+      go : (first : Bool) → eqb records 0 ≡ first → One (recordOf first bytes)
+      go true f = by-first One (ends-here records 13 hub refl) bytes (one-hub (getD d 0 0) f)
+      go false f =
+          let a = getD d 0 0 in
+          let line = pixelLineEvent a (replicate (getD d 1 0 + 256 * getD d 2 0) (getD d 3 0 + 256 * getD d 4 0)) in
+          by-record One (ends-here records 13 hub refl) false bytes (λ e. zero-not-one (cc)) (one-write a (drop 1 d))
+          (same-later (given (registerRead a (hubRead hub a))) tt hub packets refl refl)
+          (same-later (onReply (writeHeard a) (whoHearsWrite hub a)) (write-not-ending records f hub a)
+          hub packets refl refl)
+          (same-later (onReply (readAnswered a) (whoAnswersRead hub a)) (read-not-ending records f hub a)
+          hub packets refl refl)
+          (one-event f Start a (startEvent a (getD d 1 0))) (one-event f End a (endEvent a))
+          (one-event f PixelLine a line)
 
 -- all records, of which there are at most n
-go-together : (n records : ℕ) (before : TraceWrites) (hub : Hub) (packets bytes : List ℕ) → Together (eqb records 0) before hub
+go-together : (n records : ℕ) (before : TraceWrites) (hub : Hub) (packets bytes : List ℕ)
+    → Together (eqb records 0) before hub
     → Ends records (afterRecords n records before bytes) (playRecords n (eqb records 0) hub packets bytes)
 unfolding afterRecords playRecords
-go-together zero records before hub packets bytes so = (so .address, so .registers)
+go-together zero records before hub packets bytes so =
+    record { address = so .address; registers = so .registers; going = tt }
 go-together (suc n) records before hub packets bytes so =
     let next = ne-eqb (records + 1) 0 (λ e. omega arith) in
     go (eqb (length bytes) 0)
     (one n records before hub packets bytes so
-    (λ after hub' packets' more. rw next at (go-together n (records + 1) after hub' packets' (drop (recordLength bytes) bytes) (rw next more))))
+    (λ after hub' packets' more.
+    rw next at (go-together n (records + 1) after hub' packets' (drop (recordLength bytes) bytes) (rw next more))))
   where
     rest : List ℕ
     rest = drop (recordLength bytes) bytes
 
     go : (b : Bool) →
         let played = playRecord hub packets (recordOf (eqb records 0) bytes) in
-        let reply = andThen (afterRecord before (records + 1) (recordOf (eqb records 0) bytes)) (λ after. afterRecords n (records + 1) after rest) in
+        let here = afterRecord before (records + 1) (recordOf (eqb records 0) bytes) in
+        let reply = andThen here (λ after. afterRecords n (records + 1) after rest) in
         let all = playedThen played (playRecords n false (played .hub) (played .packets) rest) in
         Ends records reply all → Ends records (cond b (given before) reply) (cond b (noneLeft hub) all)
-    go true e = (so .address, so .registers)
+    go true e = record { address = so .address; registers = so .registers; going = tt }
     go false e = e
 
 -- a trace that has a byte
-trace-ends : (trace : List ℕ) → 1 ≤ length trace → Ends 0 (traceWrites trace) (playFile trace)
+pub trace-ends : (trace : List ℕ) → 1 ≤ length trace → Ends 0 (traceWrites trace) (playFile trace)
 unfolding traceWrites hubWith
 trace-ends trace h =
     rw (ne-eqb (length trace) 0 (λ e. omega arith))
@@ -165,7 +231,7 @@ trace-ends trace h =
     (record { address = refl; registers = none-after [] refl; none = λ e. refl }))
 
 -- a trace that has writes has a byte
-some-byte : (trace : List ℕ) {writes : TraceWrites} → traceWrites trace ≡ given writes → 1 ≤ length trace
+pub some-byte : (trace : List ℕ) {writes : TraceWrites} → traceWrites trace ≡ given writes → 1 ≤ length trace
 unfolding traceWrites
 some-byte trace {writes} e = go (eqb (length trace) 0) refl e
   where
@@ -177,12 +243,4 @@ some-byte trace {writes} e = go (eqb (length trace) 0) refl e
 pub writes-are-played : WritesArePlayed
 writes-are-played trace writes e =
     let end = rw e at (trace-ends trace (some-byte trace e)) in
-    record { address = end .0; registers = end .1 }
-
-detail-same : (number count : ℕ) → some number ≡ some (0 + count + 1) → number ≡ count + 1
-detail-same number count e = let same : number ≡ 0 + count + 1 = cc in omega arith
-
-pub refused-where-run-ends : RefusedWhereRunEnds
-refused-where-run-ends trace refusal number h e =
-    let end = rw e at (trace-ends trace h) in
-    record { earlier = end .0; answers = end .1; count = detail-same number (length (end .0)) (end .2) }
+    record { address = end .address; registers = end .registers }

@@ -3,12 +3,16 @@
 use mathlib.Core.Path.{_≡_}
 use mathlib.Core.Bool.{Bool, true, false, cond}
 use Prim.Native.Nat.{ℕ, _+_, _<_}
-use lib.Dec.{leb}
+use lib.Dec.{eqb, leb}
 use Rattle.laws.specs.Bits.{digit, bit}
 
 -- the mask, by whether each of the four ports is in the set
 abbrev pub maskOfFour : Bool → Bool → Bool → Bool → ℕ
 maskOfFour port0 port1 port2 port3 = cond port0 1 0 + cond port1 2 0 + cond port2 4 0 + cond port3 8 0
+
+-- the mask of one port; there is no port above 3
+abbrev pub maskOfPort : ℕ → ℕ
+maskOfPort port = maskOfFour (eqb port 0) (eqb port 1) (eqb port 2) (eqb port 3)
 
 -- the ports of which something holds
 unfoldable pub portMask : (ℕ → Bool) → ℕ

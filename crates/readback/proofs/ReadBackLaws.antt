@@ -26,7 +26,8 @@ use Rattle.csi2.specs.declared.short.FrameSync.the-variants.{FrameStart, FrameE
 use Rattle.csi2.specs.Writers.{shortReply, longPacketReply}
 use Rattle.csi2.proofs.WriterLaws.{long-good}
 use Rattle.reader.proofs.RoundLaws.{long-packet-reads-back, long-packet-unpacks, short-reads-back}
-use Rattle.frames.specs.Events.{startEvent, pixelLineEvent, endEvent, lastFrame, largestNumber, nextNumber, startNumber}
+use Rattle.frames.specs.Events.{startEvent, pixelLineEvent, endEvent, lastFrame, largestNumber, nextFrameNumber}
+use Rattle.frames.specs.Events.{startNumber}
 use Rattle.frames.specs.Events.{sent, forwardOn, ifOpen, eventReply}
 use Rattle.readback.specs.ReadBack.{NumberLimits, EventsReadBack, EventLinesUnpack}
 
@@ -47,8 +48,8 @@ open-given (Closed format number) next e = zero-not-one (cc)
 open-given (Open format number) next e = (format, number, refl, e)
 
 -- the next number is at most the largest, or 1
-next-small : (largest old : ℕ) → largest < 65536 → nextNumber largest old < 65536
-unfolding nextNumber
+next-small : (largest old : ℕ) → largest < 65536 → nextFrameNumber largest old < 65536
+unfolding nextFrameNumber
 next-small largest old h = go (eqb largest 0) (leb (old + 1) largest) refl
   where
     go : (none more : Bool) → leb (old + 1) largest ≡ more → cond none 0 (cond more (old + 1) 1) < 65536

@@ -108,6 +108,9 @@ MAX-FRM-LO = 0x1E
 abbrev pub FWD-CTL1 : ℕ
 FWD-CTL1 = 0x20
 
+abbrev pub FWD-CTL2 : ℕ
+FWD-CTL2 = 0x21
+
 abbrev pub FPD3-PORT-SEL : ℕ
 FPD3-PORT-SEL = 0x4C
 

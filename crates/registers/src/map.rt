@@ -17,6 +17,8 @@ pub const MAX_FRM_LO: usize = 0x1E;
 
 pub const FWD_CTL1: usize = 0x20;
 
+pub const FWD_CTL2: usize = 0x21;
+
 pub const FPD3_PORT_SEL: usize = 0x4C;
 
 pub const BCC_CONFIG: usize = 0x58;

@@ -7,7 +7,7 @@ use Prim.Native.Nat.{ℕ, zero, suc, _≤_}
 use native.Mathlib.Omega.{arith}
 use borrow.Author.Tests.{eqb-true, eqb-false}
 use lib.Dec.{eqb}
-use lib.ListN.{length, getD, drop}
+use lib.ListN.{length, getD, drop, replicate}
 use Rattle.laws.specs.Reply.{given}
 use Rattle.laws.specs.Elements.{AreBytes}
 use Rattle.laws.proofs.Elements.{below-from}
@@ -17,7 +17,7 @@ use Rattle.registers.specs.Bursts.{RegisterWrite, writeEach}
 use Rattle.registers.proofs.Bursts.{burst-one, writes-none, writes-append}
 use Rattle.registers.proofs.ByteWrites.{AreByteWrites, burst-bytes, more-bytes}
 use Rattle.hub.specs.declared.Hub.{Hub}
-use Rattle.hub.specs.Hubs.{hubAt, isHubAddress, withRegisters, hubBurst}
+use Rattle.hub.specs.Hubs.{hubWith, hubAt, isHubAddress, withRegisters, hubBurst}
 use Rattle.hub.proofs.Hubs.{burst-registers}
 use Rattle.trace.specs.Framing.{recordLength, dataOf}
 use Rattle.trace.specs.Records.{hubRecord, recordOf}
@@ -28,9 +28,10 @@ use Rattle.script.proofs.TraceLaws.{writes-length, trace-length, trace-first, t
 use Rattle.listing.specs.Listing.{recordCalls, traceCalls, leftCalls}
 use Rattle.listing.proofs.RecordLaws.{hub-calls, write-calls}
 use Rattle.listing.proofs.TraceLaws.{records-join, none-left}
-use Rattle.playback.specs.Playing.{playRecords}
+use Rattle.playback.specs.Playing.{playRecords, packetRoom}
 use Rattle.playback.proofs.RecordPlays.{hub-played, write-played}
 use Rattle.playback.proofs.PlayingLaws.{no-records, next-record}
+use Rattle.roundtrip.specs.PlayedCalls.{CallsArePlayed}
 
 -- the hub after some writes of one value
 abbrev pub hubWrites : Hub → List RegisterWrite → Hub
@@ -119,9 +120,13 @@ module _ (packets : List ℕ) where
       (writes-end calls (hubBurst hub (call .offset) values)
       ∙ rw (burst-registers hub (call .offset) values, burst-one (call .offset) (call .value), sym (writes-append Selection (hub .registers) (call ∷ []) calls)))
 
-  pub trace-end : (address : ℕ) (calls : List RegisterWrite) (hub : Hub) → isHubAddress address ≡ true
+  trace-end : (address : ℕ) (calls : List RegisterWrite) (hub : Hub) → isHubAddress address ≡ true
       → playRecords (length (traceOf address calls)) true hub packets (traceOf address calls) .hub ≡ hubWrites (hubAt address) calls
   trace-end address calls hub allowed =
       let some : 1 ≤ length (traceOf address calls) = omega (arith, trace-length address calls) in
       rw (next-record true hub packets (traceOf address calls) some, trace-first address calls, hub-played hub packets address allowed, trace-rest address calls)
       (writes-end calls (hubAt address))
+
+pub calls-are-played : CallsArePlayed
+unfolding hubWith
+calls-are-played address calls allowed = trace-end (replicate packetRoom 0) address calls (hubAt 0x08) allowed

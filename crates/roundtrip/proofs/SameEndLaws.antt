@@ -3,17 +3,18 @@
 use mathlib.Core.Path.{refl, sym, _∙_}
 use Prim.Native.Nat.{_≤_}
 use lib.ListN.{length, replicate}
-use Rattle.hub.specs.Hubs.{hubAt}
+use Rattle.hub.specs.Hubs.{hubWith, hubAt}
 use Rattle.script.specs.Traces.{traceOf}
 use Rattle.script.proofs.GrammarLaws.{exactly-such-texts}
 use Rattle.listing.proofs.AnswerLaws.{trace-text-given}
 use Rattle.playback.specs.Playing.{packetRoom}
 use Rattle.roundtrip.specs.SameEnd.{SameEndState}
 use Rattle.roundtrip.proofs.TextLaws.{script-of}
-use Rattle.roundtrip.proofs.RunLaws.{trace-runs, trace-end}
+use Rattle.roundtrip.proofs.RunLaws.{trace-runs, calls-are-played}
 
 -- the text is a script of the trace's calls, and the trace of those calls ends as the first one does
 pub same-end-state : SameEndState
+unfolding hubWith
 same-end-state trace text address size bytes first e =
     let taken = trace-text-given trace size e in
     let calls = taken .0 in
@@ -25,5 +26,6 @@ same-end-state trace text address size bytes first e =
       read = λ room (h : length again ≤ room).
           exactly-such-texts address text room again .every
           (record { calls = calls; script = script; made = refl; allowed = runs .allowed; room = h });
-      end = trace-end (replicate packetRoom 0) address calls (hubAt 0x08) (runs .allowed) ∙ sym (runs .end (hubAt 0x08) (replicate packetRoom 0));
+      end =
+          calls-are-played address calls (runs .allowed) ∙ sym (runs .end (hubAt 0x08) (replicate packetRoom 0));
     }

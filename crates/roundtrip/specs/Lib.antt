@@ -1,1 +1,2 @@
+pub mod PlayedCalls
 pub mod SameEnd

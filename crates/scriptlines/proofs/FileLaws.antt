@@ -20,8 +20,9 @@ use Rattle.registers.specs.Bursts.{RegisterWrite}
 use Rattle.script.specs.Grammar.{longestScriptLine}
 use Rattle.script.specs.Traces.{writeRecords, traceOf}
 use Rattle.script.specs.Reading.{restReply, partsOf, callsFrom, scriptCalls, traceIfRoom, scriptTrace}
-use Rattle.scriptlines.specs.TakenLines.{LinesDone, LinesState, linesAt, recordRoom, mayTakeNext, mayTake}
-use Rattle.scriptlines.specs.ScriptFiles.{windowTaken, lineRefused, takingLines, noLines, recordsReply, ScriptHoweverCut}
+use Rattle.scriptlines.specs.TakenLines.{LinesDone, LinesState, linesStateAt, recordRoom, mayTakeNext}
+use Rattle.scriptlines.specs.TakenLines.{mayTakeLine}
+use Rattle.scriptlines.specs.ScriptFiles.{windowTaken, lineRefused, takingLines, noLinesDone, recordsReply, ScriptHoweverCut}
 use Rattle.scriptlines.proofs.LineLaws.{shows, toCome, putThen, LinesFit, PutsNext, lines-put, left-most, left-less, none-taken}
 
 -- what the work comes to
@@ -44,7 +45,7 @@ put-records rest before after puts start =
 
 module _ (last : Bool) (done : LinesDone) (bytes lent : List ℕ) (room : recordRoom ≤ length lent) where
   abbrev before : LinesState
-  before = linesAt done bytes lent 0
+  before = linesStateAt done bytes lent 0
 
   abbrev after : LinesState
   after = windowTaken last done bytes lent
@@ -58,9 +59,9 @@ module _ (last : Bool) (done : LinesDone) (bytes lent : List ℕ) (room : record
       (rw (put-records rest before after puts refl) (puts .same), puts .fits, refused-left (after .done) (after .left ++ rest))
 
   -- a line is taken where none was refused and the window shows one
-  may-take : lineRefused done ≡ false → shows last bytes ≡ true → mayTake last before ≡ true
+  may-take-line : lineRefused done ≡ false → shows last bytes ≡ true → mayTakeLine last before ≡ true
   unfolding mayTakeNext
-  may-take none shown = rw (not-false (eqb (done .refusal) 0) none, le-leb (0 + recordRoom) (length lent) (omega arith), shown)
+  may-take-line none shown = rw (not-false (eqb (done .refusal) 0) none, le-leb (0 + recordRoom) (length lent) (omega arith), shown)
 
   -- where none is refused after the window, none was before
   none-before : lineRefused (after .done) ≡ false → lineRefused done ≡ false
@@ -80,7 +81,7 @@ module _ (last : Bool) (done : LinesDone) (bytes lent : List ℕ) (room : record
   pub fewer : 1 ≤ length bytes → (last ≡ false → longestScriptLine + 1 ≤ length bytes) → lineRefused (after .done) ≡ false
       → length (after .left) < length bytes
   fewer one long none =
-      left-less (length bytes) last before (omega arith) (may-take (none-before none) (enough one long last refl))
+      left-less (length bytes) last before (omega arith) (may-take-line (none-before none) (enough one long last refl))
       (not-false (eqb (after .done .refusal) 0) none)
 
 by-windows : ByWindows takingLines linesResult LinesFit (longestScriptLine + 1) recordRoom
@@ -90,7 +91,7 @@ by-windows =
       nothing = λ r. sym (joined-none r);
       atEnd = none-left;
       next = λ last done bytes lent rest ends room fit. next-window last done bytes lent room rest ends fit;
-      most = λ last done bytes lent. left-most (length bytes) last (linesAt done bytes lent 0);
+      most = λ last done bytes lent. left-most (length bytes) last (linesStateAt done bytes lent 0);
       less = λ last done bytes lent rest room fit one long none. fewer last done bytes lent room one long none;
     }
 
@@ -112,8 +113,8 @@ trace-made address size (given calls) = refl
 pub script-however-cut : ScriptHoweverCut
 unfolding scriptCalls scriptTrace
 script-however-cut text size inputs small holds lend few =
-    let end = however-read LinesDone (Reply (List ℕ)) takingLines linesResult LinesFit (longestScriptLine + 1) recordRoom by-windows noLines text size inputs
+    let end = however-read LinesDone (Reply (List ℕ)) takingLines linesResult LinesFit (longestScriptLine + 1) recordRoom by-windows noLinesDone text size inputs
     (omega arith) (omega arith) (omega arith) lend few in
-    let way = allTurns takingLines size (wayFrom noLines text) inputs in
+    let way = allTurns takingLines size (wayFrom noLinesDone text) inputs in
     let records : recordsReply (way .state) (way .put) ≡ onReply writeRecords (scriptCalls text) = sym (put-end (way .state) (way .put)) ∙ end .1 in
     record { done = end .0; records = records; trace = λ address room allowed. rw (records, allowed) (trace-made address room (scriptCalls text)) }

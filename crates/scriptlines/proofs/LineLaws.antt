@@ -25,7 +25,7 @@ use Rattle.script.specs.Reading.{joinedTo, partsOf, callsFrom}
 use Rattle.script.specs.FirstLines.{holdsScriptLine, LineWithCalls, firstLineReply}
 use Rattle.script.proofs.TraceLaws.{writes-append, writes-length}
 use Rattle.script.proofs.FirstLineLaws.{lineThen, calls-first, first-given, not-zero, holds-some, same-first}
-use Rattle.scriptlines.specs.TakenLines.{LinesDone, LinesState, linesAt, recordRoom, mayTakeNext, mayTake, afterLine, takeOne, takeLines}
+use Rattle.scriptlines.specs.TakenLines.{LinesDone, LinesState, linesStateAt, recordRoom, mayTakeNext, mayTakeLine, afterLine, takeLine, takeLines}
 
 -- a window shows what its next line comes to or, at the file's end, any byte
 abbrev pub shows : Bool → List ℕ → Bool
@@ -71,8 +71,8 @@ records-joined here (given later) = ap given (writes-append here later)
 -- one line, by what it comes to
 pub by-line : (P : LinesState → Type 0) (state : LinesState)
     → ((number : ℕ) (detail : Option ℕ) → firstLineReply (state .left) ≡ refusedWith number detail → P (afterLine state (refusedWith number detail)))
-    → ((line : LineWithCalls) → firstLineReply (state .left) ≡ given line → P (afterLine state (given line))) → P (takeOne state)
-unfolding takeOne
+    → ((line : LineWithCalls) → firstLineReply (state .left) ≡ given line → P (afterLine state (given line))) → P (takeLine state)
+unfolding takeLine
 by-line P state wrong right = go (firstLineReply (state .left)) refl
   where
     go : (reply : Reply LineWithCalls) → firstLineReply (state .left) ≡ reply → P (afterLine state reply)
@@ -96,13 +96,13 @@ to-take-most state = go (eqb (state .done .refusal) 0)
     go false = omega arith
 
 -- no more is left after a line than there was
-one-most : (state : LinesState) → length (takeOne state .left) ≤ length (state .left)
+one-most : (state : LinesState) → length (takeLine state .left) ≤ length (state .left)
 one-most state =
     by-line (λ after. length (after .left) ≤ length (state .left)) state (λ number detail e. omega arith)
     (λ line e. omega (arith, length-drop (line .count + 1) (state .left)))
 
 -- one line that may be taken
-module _ (last : Bool) (state : LinesState) (may : mayTake last state ≡ true) where
+module _ (last : Bool) (state : LinesState) (may : mayTakeLine last state ≡ true) where
   abbrev left : List ℕ
   left = state .left
 
@@ -122,7 +122,7 @@ module _ (last : Bool) (state : LinesState) (may : mayTake last state ≡ true) 
   pub some-byte : 1 ≤ length (state .left)
   some-byte = some-left last left (tests .1)
 
-  pub one-inside : takeOne state .at ≤ length (takeOne state .out)
+  pub one-inside : takeLine state .at ≤ length (takeLine state .out)
   one-inside =
       by-line (λ after. after .at ≤ length (after .out)) state (λ number detail e. omega (arith, has-room))
       (λ line e.
@@ -130,17 +130,17 @@ module _ (last : Bool) (state : LinesState) (may : mayTake last state ≡ true) 
       omega (arith, length-written (state .out) (state .at) (writeRecords (line .calls)) fits))
 
   -- less is to take after it
-  pub one-less : 1 + toTake (takeOne state) ≤ toTake state
+  pub one-less : 1 + toTake (takeLine state) ≤ toTake state
   one-less =
       let all : toTake state ≡ length left = ap (λ (n : ℕ). cond (eqb n 0) (length left) 0) (tests .0) in
-      let one : 1 + toTake (takeOne state) ≤ length left =
+      let one : 1 + toTake (takeLine state) ≤ length left =
       by-line (λ after. 1 + toTake after ≤ length left) state
       (λ number detail e. let some = not-zero left e in rw (ne-eqb number 0 (λ z. omega arith)) (omega (arith, some-byte)))
       (λ line e. omega (arith, first-given left e .0, length-drop (line .count + 1) left)) in
       omega arith
 
   -- it puts its records
-  one-puts : (rest : List ℕ) → (last ≡ true → rest ≡ []) → LinesFit (state .done) (left ++ rest) → PutsNext rest state (takeOne state)
+  one-puts : (rest : List ℕ) → (last ≡ true → rest ≡ []) → LinesFit (state .done) (left ++ rest) → PutsNext rest state (takeLine state)
   one-puts rest ends fit = by-line (PutsNext rest state) state wrong right
     where
       -- what is to come, by the next line
@@ -186,14 +186,14 @@ module _ (last : Bool) (state : LinesState) (may : mayTake last state ≡ true) 
 -- one line by the source's steps
 module _ (state : LinesState) where
   pub one-refused : (number : ℕ) → firstLineReply (state .left) ≡ refused number
-      → linesAt (record { lines = state .done .lines; refusal = number }) (state .left) (state .out) (state .at) ≡ takeOne state
-  unfolding takeOne
+      → linesStateAt (record { lines = state .done .lines; refusal = number }) (state .left) (state .out) (state .at) ≡ takeLine state
+  unfolding takeLine
   one-refused number e = rw e
 
   pub one-given : state .at + recordRoom ≤ length (state .out) → {line : LineWithCalls} {out : List ℕ} {next : ℕ} → firstLineReply (state .left) ≡ given line
       → Puts (state .out) (state .at) (writeRecords (line .calls)) out next
-      → linesAt (record { lines = (state .done .lines + 1) % 2 ^ 64; refusal = 0 }) (drop (line .count + 1) (state .left)) out next ≡ takeOne state
-  unfolding takeOne
+      → linesStateAt (record { lines = (state .done .lines + 1) % 2 ^ 64; refusal = 0 }) (drop (line .count + 1) (state .left)) out next ≡ takeLine state
+  unfolding takeLine
   one-given room e puts =
       let fits = line-inside state room e in
       rw (e, whole-buffer puts fits, whole-place puts fits)
@@ -226,12 +226,12 @@ module _ (rest : List ℕ) where
       }
 
 -- the window's lines by the test of the first of them
-pub by-first : (P : LinesState → Type 0) (n : ℕ) (last : Bool) (state : LinesState) → (mayTake last state ≡ true → P (takeLines n last (takeOne state)))
-    → (mayTake last state ≡ false → P state) → P (takeLines (suc n) last state)
+pub by-first : (P : LinesState → Type 0) (n : ℕ) (last : Bool) (state : LinesState) → (mayTakeLine last state ≡ true → P (takeLines n last (takeLine state)))
+    → (mayTakeLine last state ≡ false → P state) → P (takeLines (suc n) last state)
 unfolding takeLines
-by-first P n last state more none = go (mayTake last state) refl
+by-first P n last state more none = go (mayTakeLine last state) refl
   where
-    go : (b : Bool) → mayTake last state ≡ b → P (cond b (takeLines n last (takeOne state)) state)
+    go : (b : Bool) → mayTakeLine last state ≡ b → P (cond b (takeLines n last (takeLine state)) state)
     go true e = more e
     go false e = none e
 
@@ -243,7 +243,7 @@ lines-put (suc n) last rest before ends inside fit =
     by-first (PutsNext rest before) n last before
     (λ e.
     let one = one-puts last before e rest ends fit in
-    puts-then rest one (lines-put n last rest (takeOne before) ends (one-inside last before e) (one .fits)))
+    puts-then rest one (lines-put n last rest (takeLine before) ends (one-inside last before e) (one .fits)))
     (λ e. puts-none rest before inside fit)
 
 -- no more is left than there was
@@ -252,7 +252,7 @@ unfolding takeLines
 left-most zero last state = omega arith
 left-most (suc n) last state =
     by-first (λ after. length (after .left) ≤ length (state .left)) n last state
-    (λ e. omega (arith, one-most state, left-most n last (takeOne state)))
+    (λ e. omega (arith, one-most state, left-most n last (takeLine state)))
     (λ e. omega arith)
 
 -- nor is more to take
@@ -261,26 +261,26 @@ unfolding takeLines
 to-take-less zero last state = omega arith
 to-take-less (suc n) last state =
     by-first (λ after. toTake after ≤ toTake state) n last state
-    (λ e. omega (arith, one-less last state e, to-take-less n last (takeOne state)))
+    (λ e. omega (arith, one-less last state e, to-take-less n last (takeLine state)))
     (λ e. omega arith)
 
 -- the next line is taken, or none
-next-taken : (n : ℕ) (last : Bool) (state : LinesState) → mayTake last state ≡ true → takeLines (suc n) last state ≡ takeLines n last (takeOne state)
+next-taken : (n : ℕ) (last : Bool) (state : LinesState) → mayTakeLine last state ≡ true → takeLines (suc n) last state ≡ takeLines n last (takeLine state)
 unfolding takeLines
 next-taken n last state may = rw may
 
-pub none-taken : (n : ℕ) (last : Bool) (state : LinesState) → mayTake last state ≡ false → takeLines n last state ≡ state
+pub none-taken : (n : ℕ) (last : Bool) (state : LinesState) → mayTakeLine last state ≡ false → takeLines n last state ≡ state
 unfolding takeLines
 none-taken zero last state may = refl
 none-taken (suc n) last state may = rw may
 
 -- where a line may be taken, and none is refused, less is left
-pub left-less : (n : ℕ) (last : Bool) (state : LinesState) → length (state .left) ≤ n → mayTake last state ≡ true
+pub left-less : (n : ℕ) (last : Bool) (state : LinesState) → length (state .left) ≤ n → mayTakeLine last state ≡ true
     → eqb (takeLines n last state .done .refusal) 0 ≡ true → length (takeLines n last state .left) < length (state .left)
 left-less zero last state h may none = let some = some-byte last state may in absurd (omega arith)
 left-less (suc n) last state h may none =
     let less : 1 + toTake (takeLines (suc n) last state) ≤ toTake state =
-    rw (next-taken n last state may) (omega (arith, to-take-less n last (takeOne state), one-less last state may)) in
+    rw (next-taken n last state may) (omega (arith, to-take-less n last (takeLine state), one-less last state may)) in
     let all : toTake (takeLines (suc n) last state) ≡ length (takeLines (suc n) last state .left) =
     ap (λ (b : Bool). cond b (length (takeLines (suc n) last state .left)) 0) none in
     omega (arith, to-take-most state)
@@ -296,12 +296,12 @@ module _ (last : Bool) (start : LinesState) where
   way-start = record { n = length (start .left); enough = to-take-most start; same = refl }
 
   module _ (state : LinesState) (way : OnTheWay last start state) where
-    pub way-on : mayTake last state ≡ true → OnTheWay last start (takeOne state)
+    pub way-on : mayTakeLine last state ≡ true → OnTheWay last start (takeLine state)
     way-on may = go (way .n) (way .enough) (way .same)
       where
-        go : (n : ℕ) → toTake state ≤ n → takeLines (length (start .left)) last start ≡ takeLines n last state → OnTheWay last start (takeOne state)
+        go : (n : ℕ) → toTake state ≤ n → takeLines (length (start .left)) last start ≡ takeLines n last state → OnTheWay last start (takeLine state)
         go zero h e = absurd (omega (arith, one-less last state may))
         go (suc n) h e = record { n = n; enough = omega (arith, one-less last state may); same = e ∙ next-taken n last state may }
 
-    pub way-end : mayTake last state ≡ false → state ≡ takeLines (length (start .left)) last start
+    pub way-end : mayTakeLine last state ≡ false → state ≡ takeLines (length (start .left)) last start
     way-end may = sym (way .same ∙ none-taken (way .n) last state may)

@@ -11,12 +11,12 @@ use Rattle.streams.specs.declared.Window.{Window}
 use Rattle.streams.specs.Streams.{afterRead, nothingLeft}
 use Rattle.scriptlines.specs.declared.LinesTaken.{LinesTaken}
 use Rattle.scriptlines.specs.declared.ScriptFile.{ScriptFile}
-use Rattle.scriptlines.specs.TakenLines.{doneOf, linesAt, TakesLines}
+use Rattle.scriptlines.specs.TakenLines.{doneOf, linesStateAt, TakesLines}
 use Rattle.scriptlines.specs.ScriptFiles.{lineRefused, MakesScriptTurn}
 
 pub makes-turn : (file : ScriptFile) (got : ℕ) (buffer out : List ℕ) {window : Window} {count : ℕ} {done : Bool} {taken : LinesTaken}
     {bufferAfter outAfter : List ℕ} → window ≡ afterRead (file .window) got (length buffer)
-    → TakesLines (window .last) (linesAt (doneOf (file .run)) (take (window .held) buffer) out 0) taken outAfter
+    → TakesLines (window .last) (linesStateAt (doneOf (file .run)) (take (window .held) buffer) out 0) taken outAfter
     → count ≡ length (drop (taken .used) (take (window .held) buffer))
     → bufferAfter ≡ written buffer 0 (drop (taken .used) (take (window .held) buffer))
     → done ≡ nothingLeft (lineRefused (doneOf (taken .run))) (window .last) count

@@ -5,9 +5,9 @@ use mathlib.Core.List.{List}
 use Prim.Native.Nat.{ℕ, _≤_}
 use lib.ListN.{length}
 use Rattle.scriptlines.specs.declared.LinesTaken.{LinesTaken}
-use Rattle.scriptlines.specs.TakenLines.{LinesState, linesOf, takeOne}
+use Rattle.scriptlines.specs.TakenLines.{LinesState, linesStateOf, takeLine}
 
 -- one line of the window was taken
-pub record TakesOne (before : LinesState) (taken : LinesTaken) (out : List ℕ) : Type 0 where
-  pub state : linesOf (before .left) taken out ≡ takeOne before
+pub record TakesLine (before : LinesState) (taken : LinesTaken) (out : List ℕ) : Type 0 where
+  pub state : linesStateOf (before .left) taken out ≡ takeLine before
   pub used : taken .used ≤ length (before .left)

@@ -19,14 +19,14 @@ use Rattle.script.specs.Reading.{scriptCalls, scriptTrace}
 use Rattle.scriptlines.specs.declared.LineRefusal.{LineRefusal}
 use Rattle.scriptlines.specs.declared.ScriptFile.{ScriptFile}
 use Rattle.scriptlines.specs.declared.ScriptTurn.{ScriptTurn}
-use Rattle.scriptlines.specs.TakenLines.{LinesDone, doneOf, LinesState, linesAt, recordRoom, takeLines}
+use Rattle.scriptlines.specs.TakenLines.{LinesDone, doneOf, LinesState, linesStateAt, recordRoom, takeLines}
 
-abbrev pub newFile : ScriptFile
-newFile = record { run = record { lines = 0; refusal = LineRefusal.NoRefusal }; window = newWindow }
+abbrev pub newScriptFile : ScriptFile
+newScriptFile = record { run = record { lines = 0; refusal = LineRefusal.NoRefusal }; window = newWindow }
 
 -- the bytes of a window, whose lines are taken from its start
 abbrev pub windowTaken : Bool → LinesDone → List ℕ → List ℕ → LinesState
-windowTaken last done bytes out = takeLines (length bytes) last (linesAt done bytes out 0)
+windowTaken last done bytes out = takeLines (length bytes) last (linesStateAt done bytes out 0)
 
 -- a line was refused
 abbrev pub lineRefused : LinesDone → Bool
@@ -73,8 +73,8 @@ ScriptTurnIsNext =
     → IsNextTurn takingLines (length buffer) way input
     (doneOf (result .file .run)) (result .file .window) bufferAfter (take (result .end) outAfter) (result .done)
 
-abbrev pub noLines : LinesDone
-noLines = record { lines = 0; refusal = 0 }
+abbrev pub noLinesDone : LinesDone
+noLinesDone = record { lines = 0; refusal = 0 }
 
 -- what the work comes to: the records that were put out, or the refusal with the number of its line
 abbrev pub recordsReply : LinesDone → List ℕ → Reply (List ℕ)
@@ -95,4 +95,4 @@ abbrev pub ScriptHoweverCut : Type 0
 ScriptHoweverCut =
     (text : List ℕ) (size : ℕ) (inputs : List TurnInput) → length text < 2 ^ 64
     → longestScriptLine < size → AllLend recordRoom inputs → 2 * length text + 1 ≤ length inputs
-    → TakesScript text (allTurns takingLines size (wayFrom noLines text) inputs)
+    → TakesScript text (allTurns takingLines size (wayFrom noLinesDone text) inputs)

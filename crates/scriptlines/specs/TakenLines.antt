@@ -45,12 +45,12 @@ pub record LinesState : Type 0 where
   pub out : List ℕ
   pub at : ℕ
 
-abbrev pub linesAt : LinesDone → List ℕ → List ℕ → ℕ → LinesState
-linesAt done left out at = record { done = done; left = left; out = out; at = at }
+abbrev pub linesStateAt : LinesDone → List ℕ → List ℕ → ℕ → LinesState
+linesStateAt done left out at = record { done = done; left = left; out = out; at = at }
 
 -- what came of a window, and the lent buffer after it, as the definition has it
-abbrev pub linesOf : List ℕ → LinesTaken → List ℕ → LinesState
-linesOf window taken out = linesAt (doneOf (taken .run)) (drop (taken .used) window) out (taken .next)
+abbrev pub linesStateOf : List ℕ → LinesTaken → List ℕ → LinesState
+linesStateOf window taken out = linesStateAt (doneOf (taken .run)) (drop (taken .used) window) out (taken .next)
 
 -- a line has at most one record, of 6 bytes
 abbrev pub recordRoom : ℕ
@@ -62,29 +62,29 @@ unfoldable pub mayTakeNext : LinesDone → List ℕ → Bool → ℕ → ℕ →
 mayTakeNext done left last size at =
     eqb (done .refusal) 0 && hasRoom size at recordRoom && cond last (not (eqb (length left) 0)) (holdsScriptLine left)
 
-abbrev pub mayTake : Bool → LinesState → Bool
-mayTake last state = mayTakeNext (state .done) (state .left) last (length (state .out)) (state .at)
+abbrev pub mayTakeLine : Bool → LinesState → Bool
+mayTakeLine last state = mayTakeNext (state .done) (state .left) last (length (state .out)) (state .at)
 
 -- A line that is refused stays. Of one that is taken the records are put; the count of lines has 64 bits.
 abbrev pub afterLine : LinesState → Reply LineWithCalls → LinesState
 afterLine state (refusedWith number detail) =
-    linesAt (record { lines = state .done .lines; refusal = number }) (state .left) (state .out) (state .at)
+    linesStateAt (record { lines = state .done .lines; refusal = number }) (state .left) (state .out) (state .at)
 afterLine state (given line) =
     let records = writeRecords (line .calls) in
-    linesAt (record { lines = (state .done .lines + 1) % 2 ^ 64; refusal = 0 }) (drop (line .count + 1) (state .left))
-    (written (state .out) (state .at) records) (state .at + length records)
+    linesStateAt (record { lines = (state .done .lines + 1) % 2 ^ 64; refusal = 0 })
+    (drop (line .count + 1) (state .left)) (written (state .out) (state .at) records) (state .at + length records)
 
 -- one line
-unfoldable pub takeOne : LinesState → LinesState
-takeOne state = afterLine state (firstLineReply (state .left))
+unfoldable pub takeLine : LinesState → LinesState
+takeLine state = afterLine state (firstLineReply (state .left))
 
 -- the window's lines, at most n of them
 unfoldable pub takeLines : ℕ → Bool → LinesState → LinesState
 takeLines zero last state = state
-takeLines (suc n) last state = cond (mayTake last state) (takeLines n last (takeOne state)) state
+takeLines (suc n) last state = cond (mayTakeLine last state) (takeLines n last (takeLine state)) state
 
 -- The lines of a window were taken as far as they could be; the next free place stays inside the lent buffer.
 pub record TakesLines (last : Bool) (before : LinesState) (taken : LinesTaken) (out : List ℕ) : Type 0 where
-  pub state : linesOf (before .left) taken out ≡ takeLines (length (before .left)) last before
+  pub state : linesStateOf (before .left) taken out ≡ takeLines (length (before .left)) last before
   pub used : taken .used ≤ length (before .left)
   pub place : before .at ≤ length (before .out) → taken .next ≤ length out

@@ -3,8 +3,8 @@
 // likes.
 ghost use mathlib.Core.Path.{_≡_};
 ghost use Rattle.scriptlines.specs.TakenLines.{lineRefusalNumber, refusedLine, addressRefusal};
-ghost use Rattle.scriptlines.specs.TakenLines.{doneOf, linesAt, TakesLines};
-ghost use Rattle.scriptlines.specs.ScriptFiles.{newFile, MakesScriptTurn};
+ghost use Rattle.scriptlines.specs.TakenLines.{doneOf, linesStateAt, TakesLines};
+ghost use Rattle.scriptlines.specs.ScriptFiles.{newScriptFile, MakesScriptTurn};
 use std::num::wrapping_add_u64;
 use streams::Window;
 
@@ -75,7 +75,7 @@ pub fn address_refusal(address: u8) -> u8
 
 // The script before a byte of it is read.
 pub fn new_file() -> ScriptFile
-    ensures { λ r. ⌜ r ≡ newFile ⌝ }
+    ensures { λ r. ⌜ r ≡ newScriptFile ⌝ }
 {
     let window = streams::new_window();
     ScriptFile {
@@ -97,13 +97,13 @@ pub fn take_lines(
     at: usize,
 ) -> LinesTaken
     ensures { λ r. ⌜ TakesLines last
-        (linesAt (doneOf run) (now (window .entry)) (now (out .entry)) at)
+        (linesStateAt (doneOf run) (now (window .entry)) (now (out .entry)) at)
         r (now (out .exit)) ⌝ }
 {
     let mut run = run;
     let mut used = 0;
     let mut next = at;
-    while line::may_take(
+    while line::may_take_line(
         run,
         buffers::bytes_from(window, used),
         last,
@@ -111,7 +111,7 @@ pub fn take_lines(
         next,
     ) {
         let left = buffers::bytes_from(window, used);
-        let taken = line::take_one(run, left, out, next);
+        let taken = line::take_line(run, left, out, next);
         run = taken.run;
         used += taken.used;
         next = taken.next;

@@ -2,8 +2,8 @@
 ghost use mathlib.Core.Path.{_≡_};
 ghost use Prim.Native.Nat.{_+_, _≤_};
 ghost use lib.ListN.{length};
-ghost use Rattle.scriptlines.specs.TakenLines.{doneOf, linesAt, recordRoom, mayTakeNext};
-ghost use Rattle.scriptlines.specs.Contracts.{TakesOne};
+ghost use Rattle.scriptlines.specs.TakenLines.{doneOf, linesStateAt, recordRoom, mayTakeNext};
+ghost use Rattle.scriptlines.specs.Contracts.{TakesLine};
 use crate::LineRefusal;
 use crate::LinesTaken;
 use crate::ScriptRun;
@@ -12,7 +12,7 @@ use script::records::WRITE_RECORD;
 use script::text::NextScriptLine;
 use std::num::wrapping_add_u64;
 
-pub(crate) fn may_take(run: ScriptRun, left: &[u8], last: bool, size: usize, at: usize) -> bool
+pub(crate) fn may_take_line(run: ScriptRun, left: &[u8], last: bool, size: usize, at: usize) -> bool
     ensures { λ r. ⌜ r ≡ mayTakeNext (doneOf run) (now (left .entry)) last size at ⌝ }
 {
     let refusal = run.refusal;
@@ -29,9 +29,9 @@ pub(crate) fn may_take(run: ScriptRun, left: &[u8], last: bool, size: usize, at:
 }
 
 // Takes the line at the start of what is left of a window; one that is refused stays.
-pub(crate) fn take_one(run: ScriptRun, left: &[u8], out: &mut [u8], at: usize) -> LinesTaken
+pub(crate) fn take_line(run: ScriptRun, left: &[u8], out: &mut [u8], at: usize) -> LinesTaken
     requires { ⌜ at + recordRoom ≤ length (now out) ⌝ }
-    ensures { λ r. ⌜ TakesOne (linesAt (doneOf run) (now (left .entry)) (now (out .entry)) at)
+    ensures { λ r. ⌜ TakesLine (linesStateAt (doneOf run) (now (left .entry)) (now (out .entry)) at)
         r (now (out .exit)) ⌝ }
 {
     match script::text::first_script_line(left) {

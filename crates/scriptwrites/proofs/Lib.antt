@@ -1,4 +1,5 @@
 pub mod NumberedCalls
+pub mod LineNumbers
 pub mod WriteLaws
 pub mod Turns
 pub mod Examples

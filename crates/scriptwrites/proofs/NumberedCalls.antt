@@ -3,7 +3,7 @@
 use mathlib.Core.Path.{_≡_, refl, sym, ap, _∙_}
 use mathlib.Core.Bool.{Bool, true, false, cond}
 use mathlib.Core.List.{List, [], _∷_, _++_}
-use Prim.Native.Nat.{ℕ, suc, _+_, _-_, _<_}
+use Prim.Native.Nat.{ℕ, suc, _+_, _<_}
 use native.Mathlib.Omega.{arith}
 use borrow.Author.Tests.{ne-eqb}
 use lib.ListN.{length, take, drop}
@@ -19,7 +19,7 @@ use Rattle.script.specs.FirstLines.{scriptLineLength, LineWithCalls, firstLineR
 use Rattle.script.proofs.PartLaws.{parts-some}
 use Rattle.script.proofs.GrammarLaws.{given-line}
 use Rattle.script.proofs.FirstLineLaws.{first-found, either-line, parts-ended, parts-unended, rest-refused}
-use Rattle.scriptwrites.specs.NumberedCalls.{numberedLineThen, numberedFrom, numberedCalls, NumbersForgotten, Rising, NumbersRise, InTheirLines, NumbersAreLines}
+use Rattle.scriptwrites.specs.NumberedCalls.{numberedLineThen, numberedFrom, numberedCalls, NumbersForgotten, Rising, NumbersRise}
 
 -- numbers that are given and forgotten again
 forgotten : (number : ℕ) (reply : Reply (List RegisterWrite)) → onReply unnumberedWrites (onReply (numberedAs number) reply) ≡ reply
@@ -48,32 +48,45 @@ pub numbers-forgotten : NumbersForgotten
 unfolding numberedCalls scriptCalls
 numbers-forgotten text = forgotten-from 1 (partsOf text)
 
--- what follows the last line feed has no call
-rest-none : (number : ℕ) (rest : List ℕ) {calls : List RegisterWrite} → restReply number rest ≡ given calls → calls ≡ []
+-- after the last line feed nothing stands
+rest-none : (number : ℕ) (rest : List ℕ) {calls : List RegisterWrite} → restReply number rest ≡ given calls
+    → (rest ≡ []) × (calls ≡ [])
 unfolding restReply
-rest-none number [] e = cc
+rest-none number [] e = (refl, cc)
 rest-none number (byte ∷ rest) e =
     let left = ne-eqb (length (byte ∷ rest)) 0 (λ (h : length (byte ∷ rest) ≡ 0). omega arith) in zero-not-one (cc)
 
--- what holds of no writes, and of those of a line before others of which it holds, holds of all that are given
-module _ (P : ℕ → List (List ℕ) → List NumberedWrite → Type 0) (none : (number : ℕ) (parts : List (List ℕ)) → P number parts [])
-    (more : (number : ℕ) (part : List ℕ) (parts : List (List ℕ)) (here : List RegisterWrite) (later : List NumberedWrite) → IsScriptLine part here
-    → P (suc number) parts later → P number (part ∷ parts) (numberedAs number here ++ later)) where
-  by-lines : (number : ℕ) (parts : List (List ℕ)) (writes : List NumberedWrite) → numberedFrom number parts ≡ given writes → P number parts writes
+-- what holds of no lines, of nothing after the last line feed, and of a line's writes before others of which it holds,
+-- holds of all that are given
+module _ (P : ℕ → List (List ℕ) → List NumberedWrite → Type 0)
+    (none : (number : ℕ) → P number [] []) (nothing : (number : ℕ) → P number ([] ∷ []) [])
+    (more : (number : ℕ) (part : List ℕ) (parts : List (List ℕ)) (here : List RegisterWrite)
+    (later : List NumberedWrite) → IsScriptLine part here → P (suc number) parts later
+    → P number (part ∷ parts) (numberedAs number here ++ later)) where
+  pub by-lines : (number : ℕ) (parts : List (List ℕ)) (writes : List NumberedWrite)
+      → numberedFrom number parts ≡ given writes → P number parts writes
   unfolding numberedFrom numberedAs
-  by-lines number [] writes e = let no-writes : writes ≡ [] = cc in rw no-writes (none number [])
-  by-lines number (part ∷ parts) writes e = go (isLast parts) refl (scriptLineReply part) refl (by-lines (suc number) parts)
+  by-lines number [] writes e = let no-writes : writes ≡ [] = cc in rw no-writes (none number)
+  by-lines number (part ∷ []) writes e =
+      let found = on-given (numberedAs number) (restReply number part) (sym e) in
+      let empty = rest-none number part (found .1) in
+      let no-writes : writes ≡ [] = found .2 ∙ ap (numberedAs number) (empty .1) in
+      rw (empty .0, no-writes) (nothing number)
+  by-lines number (part ∷ next ∷ parts) writes e =
+      go (scriptLineReply part) refl (by-lines (suc number) (next ∷ parts))
     where
-      go : (last : Bool) → isLast parts ≡ last → (reply : Reply (List RegisterWrite)) → scriptLineReply part ≡ reply
-          → ((later : List NumberedWrite) → numberedFrom (suc number) parts ≡ given later → P (suc number) parts later) → P number (part ∷ parts) writes
-      go true p reply q next =
-          let found = on-given (numberedAs number) (restReply number part) (sym (rw p at e)) in
-          let no-writes : writes ≡ [] = found .2 ∙ ap (numberedAs number) (rest-none number part (found .1)) in
-          rw no-writes (none number (part ∷ parts))
-      go false p (refusedWith refusal detail) q next = refused-given refl (rw (p, q) at e)
-      go false p (given here) q next =
-          let found = on-given (λ (l : List NumberedWrite). numberedAs number here ++ l) (numberedFrom (suc number) parts) (sym (rw (p, q) at e)) in
-          rw (found .2) (more number part parts here (found .0) (given-line part here q .0) (next (found .0) (found .1)))
+      rest : List (List ℕ)
+      rest = next ∷ parts
+
+      go : (reply : Reply (List RegisterWrite)) → scriptLineReply part ≡ reply
+          → ((later : List NumberedWrite) → numberedFrom (suc number) rest ≡ given later → P (suc number) rest later)
+          → P number (part ∷ rest) writes
+      go (refusedWith refusal detail) q ih = refused-given refl (rw q at e)
+      go (given here) q ih =
+          let found =
+          on-given (λ (l : List NumberedWrite). numberedAs number here ++ l) (numberedFrom (suc number) rest)
+          (sym (rw q at e)) in
+          rw (found .2) (more number part rest here (found .0) (given-line part here q .0) (ih (found .0) (found .1)))
 
 -- the numbers rise
 abbrev RisingFrom : ℕ → List (List ℕ) → List NumberedWrite → Type 0
@@ -87,27 +100,9 @@ rising-line number part parts (call ∷ []) later (called c) rises before h = (h
 
 pub numbers-rise : NumbersRise
 unfolding numberedCalls
-numbers-rise text writes e = by-lines RisingFrom (λ number parts before h. tt) rising-line 1 (partsOf text) writes e 0 (omega arith)
-
--- and are those of the lines, of which one more may stand in front
-line-more : (number : ℕ) (part : List ℕ) (parts : List (List ℕ)) (writes : List NumberedWrite) → InTheirLines (suc number) parts writes
-    → InTheirLines number (part ∷ parts) writes
-line-more number part parts [] rest = tt
-line-more number part parts (write ∷ writes) rest =
-    let h = rest .0 in
-    let next : write .number - number ≡ suc (write .number - suc number) = omega arith in
-    (omega arith, rw next (rest .1), line-more number part parts writes (rest .2))
-
-own-line : (number : ℕ) (part : List ℕ) (parts : List (List ℕ)) (here : List RegisterWrite) (later : List NumberedWrite) → IsScriptLine part here
-    → InTheirLines (suc number) parts later → InTheirLines number (part ∷ parts) (numberedAs number here ++ later)
-unfolding numberedAs
-own-line number part parts [] later (blank b) rest = line-more number part parts later rest
-own-line number part parts (call ∷ []) later (called c) rest =
-    let own : number - number ≡ 0 = omega arith in (omega arith, rw own (called c), line-more number part parts later rest)
-
-pub numbers-are-lines : NumbersAreLines
-unfolding numberedCalls
-numbers-are-lines text writes e = by-lines InTheirLines (λ number parts. tt) own-line 1 (partsOf text) writes e
+numbers-rise text writes e =
+    by-lines RisingFrom (λ number before h. tt) (λ number before h. tt) rising-line 1 (partsOf text) writes e 0
+    (omega arith)
 
 -- what the calls of a text come to by its first line
 abbrev pub numberedThen : ℕ → List ℕ → Reply LineWithCalls → Reply (List NumberedWrite)

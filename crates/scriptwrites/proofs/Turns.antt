@@ -9,7 +9,8 @@ use Rattle.scriptlines.specs.declared.ScriptTurn.{ScriptTurn}
 use Rattle.scriptlines.specs.TakenLines.{LinesDone, doneOf}
 use Rattle.scriptlines.specs.ScriptFiles.{MakesScriptTurn}
 use Rattle.scriptwrites.specs.declared.NextWrite.{NextWrite}
-use Rattle.scriptwrites.specs.ScriptWrites.{oneRecord, writeIn, MakesWriteTurn, takingWrites, WriteTurnIsNext}
+use Rattle.scriptwrites.specs.ScriptWrites.{oneRecord, writeIn, MakesWriteTurn, takingScriptWrites}
+use Rattle.scriptwrites.specs.ScriptWrites.{WriteTurnIsNext}
 
 -- a turn that puts at most one record gives its write
 pub makes-write-turn : (file : ScriptFile) (got : ℕ) (buffer : List ℕ) {made : ScriptTurn} {write : NextWrite} {bufferAfter outAfter : List ℕ}
@@ -28,5 +29,5 @@ makes-write-turn file got buffer {made} turn e =
 
 pub write-turn-is-next : WriteTurnIsNext
 write-turn-is-next way input file got buffer result bufferAfter at gave made =
-    is-next-turn way input (doneOf (file .run)) (file .window) got buffer at gave takingWrites
+    is-next-turn way input (doneOf (file .run)) (file .window) got buffer at gave takingScriptWrites
     (made .run) (made .window) (made .left) (made .fits) (rw (made .write)) (made .done)

@@ -24,12 +24,13 @@ use Rattle.script.specs.Traces.{writeRecords}
 use Rattle.script.specs.Reading.{restReply, partsOf}
 use Rattle.script.specs.FirstLines.{LineWithCalls, firstLineReply}
 use Rattle.script.proofs.FirstLineLaws.{first-given, not-zero}
-use Rattle.scriptlines.specs.TakenLines.{LinesDone, LinesState, linesAt, mayTakeNext, mayTake, afterLine, takeLines}
-use Rattle.scriptlines.specs.ScriptFiles.{lineRefused, noLines, recordsReply}
+use Rattle.scriptlines.specs.TakenLines.{LinesDone, LinesState, linesStateAt, mayTakeNext, mayTakeLine, afterLine}
+use Rattle.scriptlines.specs.TakenLines.{takeLines}
+use Rattle.scriptlines.specs.ScriptFiles.{lineRefused, noLinesDone, recordsReply}
 use Rattle.scriptlines.proofs.LineLaws.{same-next, putThen, LinesFit, by-line, tests, some-byte, by-first, lines-put, left-most, none-taken}
 use Rattle.scriptlines.proofs.FileLaws.{fewer, put-end}
 use Rattle.scriptwrites.specs.NumberedCalls.{numberedFrom, numberedCalls}
-use Rattle.scriptwrites.specs.ScriptWrites.{oneRecord, takenToCall, writeTaken, writesGiven, writeNumbers, NumbersTellWrites, takingWrites, WritesHoweverCut}
+use Rattle.scriptwrites.specs.ScriptWrites.{oneRecord, takenToCall, writeTaken, writesGiven, writeNumbers, NumbersTellWrites, takingScriptWrites, ScriptWritesHoweverCut}
 use Rattle.scriptwrites.proofs.NumberedCalls.{numberedThen, numbered-first}
 
 -- the numbers of some writes, and of those after them
@@ -62,7 +63,7 @@ writesToCome done bytes =
 
 -- the state from which the lines of a window are taken
 abbrev fromStart : LinesDone → List ℕ → LinesState
-fromStart done left = linesAt done left oneRecord 0
+fromStart done left = linesStateAt done left oneRecord 0
 
 -- the write that was taken is the next of what is to come, whatever follows the window in the file
 abbrev FindsNext : List ℕ → LinesDone → List ℕ → LinesState → Type 0
@@ -75,7 +76,7 @@ module _ (n : ℕ) (last : Bool) (rest : List ℕ) (done : LinesDone) (left : Li
   unfolding writeNumbers
   none-found = joined-none (writesToCome done (left ++ rest))
 
-  module _ (may : mayTake last (fromStart done left) ≡ true) where
+  module _ (may : mayTakeLine last (fromStart done left) ≡ true) where
     -- what is to come, by the next line
     by-next : {reply : Reply LineWithCalls} → firstLineReply left ≡ reply
         → writesToCome done (left ++ rest) ≡ onReply writeNumbers (numberedThen (done .lines + 1) (left ++ rest) reply)
@@ -160,7 +161,7 @@ none-left done = refl
 refused-left : (done : LinesDone) (bytes : List ℕ) → lineRefused done ≡ true → writesToCome done bytes ≡ recordsReply done []
 refused-left done bytes e = rw (not-true (eqb (done .refusal) 0) e)
 
-by-windows : ByWindows takingWrites writesResult LinesFit (longestScriptLine + 1) 0
+by-windows : ByWindows takingScriptWrites writesResult LinesFit (longestScriptLine + 1) 0
 by-windows =
     record {
       joined = λ a b r. sym (joined-twice a b r);
@@ -181,10 +182,10 @@ lend-none : (inputs : List TurnInput) → AllLend 0 inputs
 lend-none [] = tt
 lend-none (input ∷ inputs) = (omega arith, lend-none inputs)
 
-pub writes-however-cut : WritesHoweverCut
+pub script-writes-however-cut : ScriptWritesHoweverCut
 unfolding numberedCalls
-writes-however-cut text size inputs small holds few =
-    let end = however-read LinesDone (Reply (List ℕ)) takingWrites writesResult LinesFit (longestScriptLine + 1) 0 by-windows noLines text size inputs
+script-writes-however-cut text size inputs small holds few =
+    let end = however-read LinesDone (Reply (List ℕ)) takingScriptWrites writesResult LinesFit (longestScriptLine + 1) 0 by-windows noLinesDone text size inputs
     (omega arith) (omega arith) (omega arith) (lend-none inputs) few in
-    let way = allTurns takingWrites size (wayFrom noLines text) inputs in
+    let way = allTurns takingScriptWrites size (wayFrom noLinesDone text) inputs in
     record { done = end .0; writes = sym (put-end (way .state) (way .put)) ∙ end .1 }

@@ -7,7 +7,7 @@ use Prim.Native.Nat.{ℕ, suc, _-_, _≤_, _<_}
 use lib.ListN.{getD}
 use Rattle.laws.specs.Reply.{Reply, refusedAt, refusedWith, given, onReply}
 use Rattle.registers.specs.Bursts.{RegisterWrite}
-use Rattle.origins.specs.NumberedWrites.{NumberedWrite, unnumbered, unnumberedWrites, numberedAs}
+use Rattle.origins.specs.NumberedWrites.{NumberedWrite, unnumbered, unnumberedWrites, numberedAs, NumbersMean}
 use Rattle.calls.specs.Grammar.{IsScriptLine}
 use Rattle.script.specs.Reading.{partsOf, scriptLineReply, restReply, isLast, scriptCalls}
 
@@ -42,16 +42,17 @@ Rising before (write ∷ writes) = (before < write .number) × Rising (write .nu
 abbrev pub NumbersRise : Type 0
 NumbersRise = (text : List ℕ) (writes : List NumberedWrite) → numberedCalls text ≡ given writes → Rising 0 writes
 
--- each write is the call of the line that has its number; the first line has the number `first`
-abbrev pub InTheirLines : ℕ → List (List ℕ) → List NumberedWrite → Type 0
-InTheirLines first lines [] = Unit {0}
-InTheirLines first lines (write ∷ writes) =
-    (first ≤ write .number)
-    × IsScriptLine (getD lines (write .number - first) []) (unnumbered write ∷ [])
-    × InTheirLines first lines writes
+-- the line that has a number, counted from 1
+abbrev pub lineNumbered : ℕ → List ℕ → List ℕ
+lineNumbered number text = getD (partsOf text) (number - 1) []
 
--- A law: each number is that of the line in which the call stands.
+-- the write is the call of the line that has its number
+pub record InItsLine (text : List ℕ) (write : NumberedWrite) : Type 0 where
+  pub counted : 1 ≤ write .number
+  pub called : IsScriptLine (lineNumbered (write .number) text) (unnumbered write ∷ [])
+
+-- A law: the numbers of a script's writes are those of its lines.
 abbrev pub NumbersAreLines : Type 0
 NumbersAreLines =
     (text : List ℕ) (writes : List NumberedWrite) → numberedCalls text ≡ given writes
-    → InTheirLines 1 (partsOf text) writes
+    → NumbersMean (InItsLine text) writes

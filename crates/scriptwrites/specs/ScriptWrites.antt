@@ -15,7 +15,7 @@ use Rattle.origins.specs.NumberedWrites.{NumberedWrite}
 use Rattle.script.specs.Grammar.{longestScriptLine}
 use Rattle.scriptlines.specs.declared.ScriptFile.{ScriptFile}
 use Rattle.scriptlines.specs.TakenLines.{LinesDone, doneOf, LinesState}
-use Rattle.scriptlines.specs.ScriptFiles.{windowTaken, lineRefused, noLines, recordsReply}
+use Rattle.scriptlines.specs.ScriptFiles.{windowTaken, lineRefused, noLinesDone, recordsReply}
 use Rattle.scriptwrites.specs.declared.NextWrite.{NextWrite}
 use Rattle.scriptwrites.specs.declared.WriteTurn.{WriteTurn}
 use Rattle.scriptwrites.specs.NumberedCalls.{numberedCalls}
@@ -71,8 +71,8 @@ NumbersTellWrites = (a b : List NumberedWrite) → writeNumbers a ≡ writeNumbe
 
 -- The same as work on a file (`streams`): the state is how far the script is read, and what is put out is the write.
 -- (What the work is lent is not used.)
-abbrev pub takingWrites : Work LinesDone
-takingWrites last done bytes lent =
+abbrev pub takingScriptWrites : Work LinesDone
+takingScriptWrites last done bytes lent =
     let after = takenToCall last done bytes in
     record {
       state = after .done;
@@ -89,7 +89,8 @@ WriteTurnIsNext =
     (bufferAfter : List ℕ)
     → StandsAt way (doneOf (file .run)) (file .window) buffer → ReadGave way input (file .window) got buffer
     → MakesWriteTurn file got buffer result bufferAfter
-    → IsNextTurn takingWrites (length buffer) way input (doneOf (result .file .run)) (result .file .window) bufferAfter
+    → IsNextTurn takingScriptWrites (length buffer) way input
+    (doneOf (result .file .run)) (result .file .window) bufferAfter
     (writeNumbers (writesGiven (result .write))) (result .done)
 
 -- The work on the whole text, to its end: the writes that it gave, one after the other, are the text's, each with the
@@ -100,8 +101,8 @@ pub record TakesWrites (text : List ℕ) (end : Way LinesDone) : Type 0 where
 
 -- However the bytes of a script are read, into a buffer of any size over that of a line: the work ends within so many
 -- turns, and comes to what the whole text comes to.
-abbrev pub WritesHoweverCut : Type 0
-WritesHoweverCut =
+abbrev pub ScriptWritesHoweverCut : Type 0
+ScriptWritesHoweverCut =
     (text : List ℕ) (size : ℕ) (inputs : List TurnInput) → length text < 2 ^ 64
     → longestScriptLine < size → 2 * length text + 1 ≤ length inputs
-    → TakesWrites text (allTurns takingWrites size (wayFrom noLines text) inputs)
+    → TakesWrites text (allTurns takingScriptWrites size (wayFrom noLinesDone text) inputs)

@@ -8,7 +8,7 @@ use borrow.Author.Tests.{ne-eqb}
 use lib.Dec.{eqb}
 use lib.ListN.{length, getD, drop}
 use Rattle.laws.specs.Reply.{Reply, refused, given}
-use Rattle.trace.specs.Framing.{holdsRecord, hasMark, kindOf, dataOf}
+use Rattle.trace.specs.Framing.{holdsRecord, hasMark, kindByte, dataOf}
 use Rattle.trace.specs.Records.{TraceRecord, hubRecord, writeRecord, readRecord, writeQuestion, readQuestion, startRecord, endRecord, pixelLineRecord}
 use Rattle.trace.specs.Records.{questionRecord, KindRow, kindRows, kindRowIn, kindRow, lengthAllowed, kindRecord, recordOf}
 
@@ -74,8 +74,21 @@ module _ (P : Reply TraceRecord → Type 0) where
         let direction = getD (dataOf bytes) 1 0 in
         let question = either (eqb direction 0) hears (either (eqb direction 1) answers none) in
         either (holdsRecord bytes && hasMark bytes)
-        (by-kind first (kindOf bytes) (dataOf bytes) hub (write, (read, (question, (start, (end, (line, tt)))))))
+        (by-kind first (kindByte bytes) (dataOf bytes) hub (write, (read, (question, (start, (end, (line, tt)))))))
         none
+
+    -- the first record of a trace: a hub record, or none
+    pub by-first : (bytes : List ℕ) → P (given (hubRecord (getD (dataOf bytes) 0 0))) → P (recordOf true bytes)
+    unfolding kindRows recordOf kindRecord kindRowIn
+    by-first bytes hub =
+        either (holdsRecord bytes && hasMark bytes)
+        (go (eqb (kindByte bytes) 0x00) (lengthAllowed (kindByte bytes) (length (dataOf bytes)))) none
+      where
+        go : (b allowed : Bool)
+            → P (cond (b && allowed)
+            (cond b (kindRow 0x00) (kindRowIn (drop 1 kindRows) (kindByte bytes)) .asked (dataOf bytes)) (refused 13))
+        go true allowed = either allowed hub none
+        go false allowed = none
 
     -- whatever it asks
     pub by-any : (first : Bool) (bytes : List ℕ) → ((asked : TraceRecord) → P (given asked)) → P (recordOf first bytes)

@@ -13,7 +13,7 @@ use Rattle.laws.specs.Reply.{refused, given}
 use Rattle.laws.specs.Elements.{AreBytes}
 use Rattle.laws.proofs.Elements.{below-from, below-to}
 use Rattle.laws.proofs.Absurd.{zero-not-one}
-use Rattle.trace.specs.Framing.{framingOf, recordLength, hasMark, kindOf, dataOf, holdsRecord, recordBytes, longestRecord}
+use Rattle.trace.specs.Framing.{framingOf, recordLength, hasMark, kindByte, dataOf, holdsRecord, recordBytes, longestRecord}
 use Rattle.trace.specs.Records.{TraceRecord, hubRecord, writeRecord, kindRows, kindRowIn, kindRecord, recordOf}
 use Rattle.trace.specs.Laws.{ReadsBack, SameRecord, LongestRecord}
 
@@ -32,7 +32,7 @@ pub given-whole : (first : Bool) (bytes : List ℕ) {asked : TraceRecord} → re
 unfolding recordOf
 given-whole first bytes {asked} e = go (holdsRecord bytes) refl e
   where
-    go : (b : Bool) → holdsRecord bytes ≡ b → cond (b && hasMark bytes) (kindRecord first (kindOf bytes) (dataOf bytes)) (refused 13) ≡ given asked
+    go : (b : Bool) → holdsRecord bytes ≡ b → cond (b && hasMark bytes) (kindRecord first (kindByte bytes) (dataOf bytes)) (refused 13) ≡ given asked
         → recordLength bytes ≤ length bytes
     go true p q = leb-true (recordLength bytes) (length bytes) p
     go false p q = zero-not-one (cc)

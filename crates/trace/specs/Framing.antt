@@ -15,8 +15,8 @@ framingOf bytes = record { start = 4; count = getD bytes 3 0 }
 abbrev pub hasMark : List ℕ → Bool
 hasMark bytes = eqb (getD bytes 0 0) 0x9A && eqb (getD bytes 1 0) 0x64
 
-abbrev pub kindOf : List ℕ → ℕ
-kindOf bytes = getD bytes 2 0
+abbrev pub kindByte : List ℕ → ℕ
+kindByte bytes = getD bytes 2 0
 
 unfoldable pub dataOf : List ℕ → List ℕ
 dataOf bytes = take (framingOf bytes .count) (drop (framingOf bytes .start) bytes)

@@ -11,7 +11,7 @@ use Rattle.trace.specs.declared.Record.the-variants.{Hub, Write, Read, W
 use Rattle.trace.specs.declared.Record.the-variants.{Start, End, PixelLine}
 use Rattle.trace.specs.declared.FoundRecord.{FoundRecord}
 use Rattle.trace.specs.declared.FoundRecord.the-variants.{NoRecord, Found}
-use Rattle.trace.specs.Framing.{hasMark, kindOf, dataOf, holdsRecord}
+use Rattle.trace.specs.Framing.{hasMark, kindByte, dataOf, holdsRecord}
 
 -- what a record asks of the hub
 pub data TraceRecord : Type 0 where
@@ -85,7 +85,7 @@ kindRecord first kind bytes =
 -- 13: "mark, kind, length or direction not as below, record cut short, kind 00 not first or again"
 unfoldable pub recordOf : Bool → List ℕ → Reply TraceRecord
 recordOf first bytes =
-    cond (holdsRecord bytes && hasMark bytes) (kindRecord first (kindOf bytes) (dataOf bytes)) (refused 13)
+    cond (holdsRecord bytes && hasMark bytes) (kindRecord first (kindByte bytes) (dataOf bytes)) (refused 13)
 
 -- the paper's number and values for each case of the answer;
 -- the values of a write stand in the record's data after its offset

@@ -1,6 +1,6 @@
 // How a record is framed: the mark 9A 64, a kind byte, a length byte n, then n bytes of data.
 ghost use mathlib.Core.Path.{_≡_};
-ghost use Rattle.trace.specs.Framing.{hasMark, kindOf, recordLength, holdsRecord, dataOf};
+ghost use Rattle.trace.specs.Framing.{hasMark, kindByte, recordLength, holdsRecord, dataOf};
 ghost use Rattle.trace.specs.Contracts.{FramedAs};
 
 // Where the data of a record starts, and how many bytes it has.
@@ -25,8 +25,8 @@ pub(crate) fn has_mark(bytes: &[u8]) -> bool
     buffers::byte_at(bytes, 0) == 0x9A && buffers::byte_at(bytes, 1) == 0x64
 }
 
-pub(crate) fn kind_of(bytes: &[u8]) -> u8
-    ensures { λ r. ⌜ r ≡ kindOf (now (bytes .entry)) ⌝ }
+pub(crate) fn kind_byte(bytes: &[u8]) -> u8
+    ensures { λ r. ⌜ r ≡ kindByte (now (bytes .entry)) ⌝ }
 {
     buffers::byte_at(bytes, 2)
 }

@@ -131,7 +131,7 @@ pub fn record_at(bytes: &[u8], first: bool) -> FoundRecord
     ensures { λ r. ⌜ foundReply (dataOf (now (bytes .entry))) r ≡ recordOf first (now (bytes .entry)) ⌝ }
 {
     if holds_record(bytes) && framing::has_mark(bytes) {
-        return kind_record(first, framing::kind_of(bytes), data_of(bytes));
+        return kind_record(first, framing::kind_byte(bytes), data_of(bytes));
     }
     FoundRecord::NoRecord
 }

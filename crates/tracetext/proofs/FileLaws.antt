@@ -20,7 +20,7 @@ use Rattle.trace.proofs.WindowLaws.{shows}
 use Rattle.listing.specs.Listing.{callsText, longestText}
 use Rattle.listing.proofs.TraceLaws.{none-left, empty-trace}
 use Rattle.tracetext.specs.declared.TextRun.{TextRun}
-use Rattle.tracetext.specs.TextWindows.{textRefusalNumber, isRefusal, newTextRun, isFirstRecord, ListState, listStateAt, mayListNext, mayList}
+use Rattle.tracetext.specs.TextWindows.{textRefusalNumber, isTextRefusal, newTextRun, isFirstRecord, ListState, listStateAt, mayListNext, mayList}
 use Rattle.tracetext.specs.TextFiles.{windowListed, listing, endRefusal, refusedOr, TextHoweverCut}
 use Rattle.tracetext.proofs.RecordLaws.{toCome, textThen, Known, todo-most}
 use Rattle.tracetext.proofs.WindowLaws.{windows-list, left-most, none-listed, to-do-less}
@@ -33,15 +33,15 @@ abbrev textResult : Result TextRun (Reply (List ℕ))
 textResult = record { toCome = toCome; after = textThen; end = endReply }
 
 -- where nothing is to come, or the run is over
-over-end : (run : TextRun) (left : List ℕ) → isRefusal (run .refusal) ≡ true → toCome run left ≡ endReply run
+over-end : (run : TextRun) (left : List ℕ) → isTextRefusal (run .refusal) ≡ true → toCome run left ≡ endReply run
 unfolding endRefusal
 over-end run left e = rw (e, e)
 
 at-end : (run : TextRun) → toCome run [] ≡ endReply run
 unfolding endRefusal callsText
-at-end run = go (isRefusal (run .refusal)) refl (isFirstRecord run) refl
+at-end run = go (isTextRefusal (run .refusal)) refl (isFirstRecord run) refl
   where
-    go : (b : Bool) → isRefusal (run .refusal) ≡ b → (first : Bool) → isFirstRecord run ≡ first → toCome run [] ≡ endReply run
+    go : (b : Bool) → isTextRefusal (run .refusal) ≡ b → (first : Bool) → isFirstRecord run ≡ first → toCome run [] ≡ endReply run
     go true e first f = over-end run [] e
     go false e true f = rw (e, f, empty-trace [] refl)
     go false e false f = rw (e, f, none-left [] refl)
@@ -56,7 +56,7 @@ module _ (last : Bool) (run : TextRun) (bytes lent rest : List ℕ) (room : long
   next-window : (last ≡ true → rest ≡ [])
       → (toCome run (bytes ++ rest) ≡ textThen (take (after .at) (after .out)) (toCome (after .run) (after .left ++ rest)))
       × Known (after .run) (after .left ++ rest)
-      × (isRefusal (after .run .refusal) ≡ true → toCome (after .run) (after .left ++ rest) ≡ endReply (after .run))
+      × (isTextRefusal (after .run .refusal) ≡ true → toCome (after .run) (after .left ++ rest) ≡ endReply (after .run))
   next-window ends =
       let lists = windows-list (length bytes) last rest before ends (omega arith) known in
       let put : take (after .at) (after .out) ≡ lists .text =
@@ -69,14 +69,14 @@ module _ (last : Bool) (run : TextRun) (bytes lent rest : List ℕ) (room : long
       let enough = long e in
       longest-record bytes (rw (List·getD-append bytes rest 0 3 (omega arith)) at (known .small 3)) enough
 
-  fewer : 1 ≤ length bytes → (last ≡ false → longestRecord ≤ length bytes) → isRefusal (after .run .refusal) ≡ false
+  fewer : 1 ≤ length bytes → (last ≡ false → longestRecord ≤ length bytes) → isTextRefusal (after .run .refusal) ≡ false
       → length (after .left) < length bytes
   unfolding mayListNext
-  fewer one long on = go (isRefusal (run .refusal)) refl
+  fewer one long on = go (isTextRefusal (run .refusal)) refl
     where
-      go : (b : Bool) → isRefusal (run .refusal) ≡ b → length (after .left) < length bytes
+      go : (b : Bool) → isTextRefusal (run .refusal) ≡ b → length (after .left) < length bytes
       go true e =
-          let same = ap (λ (s : ListState). isRefusal (s .run .refusal)) (none-listed (length bytes) last before (rw e)) in
+          let same = ap (λ (s : ListState). isTextRefusal (s .run .refusal)) (none-listed (length bytes) last before (rw e)) in
           zero-not-one (cc)
       go false e =
           let may : mayList last before ≡ true = rw (e, le-leb longestText (length lent) room, shown one long last refl) in
@@ -95,7 +95,7 @@ by-windows =
 
 -- the text that was put out before the end
 text-end : (put : List ℕ) (run : TextRun) → textThen put (endReply run) ≡ refusedOr (endRefusal run) (given put)
-text-end put run = go (isRefusal (endRefusal run)) (textRefusalNumber (endRefusal run))
+text-end put run = go (isTextRefusal (endRefusal run)) (textRefusalNumber (endRefusal run))
   where
     go : (b : Bool) (number : ℕ) → textThen put (cond b (refused number) (given [])) ≡ cond b (refused number) (given put)
     go true number = refl

@@ -24,7 +24,7 @@ use Rattle.listing.proofs.RecordLaws.{CallsOf, noRecord, addressOutOfRange, noT
 use Rattle.listing.proofs.TraceLaws.{records-join}
 use Rattle.tracetext.specs.declared.TextRefusal.{TextRefusal}
 use Rattle.tracetext.specs.declared.TextRun.{TextRun}
-use Rattle.tracetext.specs.TextWindows.{isRefusal, isFirstRecord, nextCalls, ListState, mayListNext, mayList, listCalls, listOne}
+use Rattle.tracetext.specs.TextWindows.{isTextRefusal, isFirstRecord, nextCalls, ListState, mayListNext, mayList, listCalls, listOne}
 use Rattle.tracetext.specs.TextFiles.{refusedOr}
 
 -- the text that is still to come, with those bytes of the trace left
@@ -57,10 +57,10 @@ texts-then here (given later) = ap given (texts-join here later)
 
 -- the bytes that may still be listed: none after a refusal
 abbrev pub todo : ListState → ℕ
-todo state = cond (isRefusal (state .run .refusal)) 0 (length (state .left))
+todo state = cond (isTextRefusal (state .run .refusal)) 0 (length (state .left))
 
 pub todo-most : (state : ListState) → todo state ≤ length (state .left)
-todo-most state = go (isRefusal (state .run .refusal))
+todo-most state = go (isTextRefusal (state .run .refusal))
   where
     go : (b : Bool) → cond b 0 (length (state .left)) ≤ length (state .left)
     go true = omega arith
@@ -84,14 +84,14 @@ module _ (last : Bool) (state : ListState) (may : mayList last state ≡ true) w
   first = isFirstRecord (state .run)
 
   -- what the tests tell
-  tests : (isRefusal (state .run .refusal) ≡ false) × (shows last left ≡ true) × (state .at + longestText ≤ length (state .out))
+  tests : (isTextRefusal (state .run .refusal) ≡ false) × (shows last left ≡ true) × (state .at + longestText ≤ length (state .out))
   unfolding mayListNext
   tests =
-      let on = not (isRefusal (state .run .refusal)) in
+      let on = not (isTextRefusal (state .run .refusal)) in
       let room = hasRoom (length (state .out)) (state .at) longestText in
       let outer = both (on && room) (shows last left) may in
       let inner = both on room (outer .0) in
-      (not-true (isRefusal (state .run .refusal)) (inner .0), outer .1, leb-true (state .at + longestText) (length (state .out)) (inner .1))
+      (not-true (isTextRefusal (state .run .refusal)) (inner .0), outer .1, leb-true (state .at + longestText) (length (state .out)) (inner .1))
 
   pub has-room : state .at + longestText ≤ length (state .out)
   has-room = tests .2
@@ -125,7 +125,7 @@ module _ (last : Bool) (state : ListState) (may : mayList last state ≡ true) w
 
     -- a refusal: nothing is put
     refused-next : (refusal : TextRefusal) → toCome (state .run) (left ++ rest) ≡ refusedOr refusal (given [])
-        → isRefusal refusal ≡ true
+        → isTextRefusal refusal ≡ true
         → ListsNext rest state (record { run = record { records = state .run .records; refusal = refusal }; left = left; out = state .out; at = state .at })
     refused-next refusal e wrong =
         record {

@@ -11,7 +11,7 @@ use Rattle.streams.specs.declared.Window.{Window}
 use Rattle.streams.specs.Streams.{afterRead, nothingLeft}
 use Rattle.tracetext.specs.declared.TextListed.{TextListed}
 use Rattle.tracetext.specs.declared.TextFile.{TextFile}
-use Rattle.tracetext.specs.TextWindows.{isRefusal, listStateAt, ListsWindow}
+use Rattle.tracetext.specs.TextWindows.{isTextRefusal, listStateAt, ListsWindow}
 use Rattle.tracetext.specs.TextFiles.{MakesTextTurn}
 
 pub makes-turn : (file : TextFile) (got : ℕ) (buffer out : List ℕ) {window : Window} {count : ℕ} {over done : Bool} {taken : TextListed}
@@ -19,7 +19,7 @@ pub makes-turn : (file : TextFile) (got : ℕ) (buffer out : List ℕ) {window :
     → ListsWindow (window .last) (listStateAt (file .run) (take (window .held) buffer) out 0) taken outAfter
     → count ≡ length (drop (taken .used) (take (window .held) buffer))
     → bufferAfter ≡ written buffer 0 (drop (taken .used) (take (window .held) buffer))
-    → over ≡ isRefusal (taken .run .refusal)
+    → over ≡ isTextRefusal (taken .run .refusal)
     → done ≡ nothingLeft over (window .last) count
     → MakesTextTurn file got buffer out
     (record { file = record { run = taken .run; window = record { held = count; last = window .last } }; end = taken .next; done = done })

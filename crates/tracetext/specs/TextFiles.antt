@@ -18,7 +18,7 @@ use Rattle.tracetext.specs.declared.TextRefusal.the-variants.{NoRefusal,
 use Rattle.tracetext.specs.declared.TextRun.{TextRun}
 use Rattle.tracetext.specs.declared.TextFile.{TextFile}
 use Rattle.tracetext.specs.declared.TextTurn.{TextTurn}
-use Rattle.tracetext.specs.TextWindows.{textRefusalNumber, isRefusal, newTextRun, isFirstRecord}
+use Rattle.tracetext.specs.TextWindows.{textRefusalNumber, isTextRefusal, newTextRun, isFirstRecord}
 use Rattle.tracetext.specs.TextWindows.{ListState, listStateAt, listWindow}
 
 abbrev pub newTextFile : TextFile
@@ -38,7 +38,7 @@ pub record TextTurnMade (last : Bool) (after : ListState) (buffer : List ℕ)
   pub text : out ≡ after .out
   pub end : result .end ≡ after .at
   pub inside : after .at ≤ length out
-  pub done : result .done ≡ nothingLeft (isRefusal (after .run .refusal)) last (length (after .left))
+  pub done : result .done ≡ nothingLeft (isTextRefusal (after .run .refusal)) last (length (after .left))
 
 -- a turn lists the bytes that the window holds after the read
 abbrev pub MakesTextTurn : TextFile → ℕ → List ℕ → List ℕ → TextTurn → List ℕ → List ℕ → Type 0
@@ -55,7 +55,7 @@ listing last run bytes lent =
       state = after .run;
       left = after .left;
       put = take (after .at) (after .out);
-      over = isRefusal (after .run .refusal);
+      over = isTextRefusal (after .run .refusal);
     }
 
 -- A turn of the source is a turn of that work: where the program stands at a way through a trace, and its read gave
@@ -71,11 +71,11 @@ TextTurnIsNext =
 
 -- the refusal at a trace's end; "13 (an empty trace too)": it has no first record
 unfoldable pub endRefusal : TextRun → TextRefusal
-endRefusal run = cond (isRefusal (run .refusal)) (run .refusal) (cond (isFirstRecord run) NoRecord NoRefusal)
+endRefusal run = cond (isTextRefusal (run .refusal)) (run .refusal) (cond (isFirstRecord run) NoRecord NoRefusal)
 
 -- a refusal by its number or, where there is none, the reply
 abbrev pub refusedOr : TextRefusal → Reply (List ℕ) → Reply (List ℕ)
-refusedOr refusal reply = cond (isRefusal refusal) (refused (textRefusalNumber refusal)) reply
+refusedOr refusal reply = cond (isTextRefusal refusal) (refused (textRefusalNumber refusal)) reply
 
 -- the work on a whole trace, to its end: the text that was put out, or the refusal, is that of the trace
 pub record ListsTrace (trace : List ℕ) (end : Way TextRun) : Type 0 where

@@ -24,8 +24,8 @@ textRefusalNumber NoRecord = 13
 textRefusalNumber AddressOutOfRange = 2
 textRefusalNumber NoTextForm = 16
 
-abbrev pub isRefusal : TextRefusal → Bool
-isRefusal refusal = not (eqb (textRefusalNumber refusal) 0)
+abbrev pub isTextRefusal : TextRefusal → Bool
+isTextRefusal refusal = not (eqb (textRefusalNumber refusal) 0)
 
 -- the refusal with that number; for a record there are these three
 abbrev pub refusalOf : ℕ → TextRefusal
@@ -68,7 +68,7 @@ listStateOf window taken out = listStateAt (taken .run) (drop (taken .used) wind
 -- the trace's end (`last`), any byte.
 unfoldable pub mayListNext : TextRun → List ℕ → Bool → ℕ → ℕ → Bool
 mayListNext run left last size at =
-    not (isRefusal (run .refusal)) && hasRoom size at longestText
+    not (isTextRefusal (run .refusal)) && hasRoom size at longestText
     && cond last (not (eqb (length left) 0)) (holdsRecord left)
 
 abbrev pub mayList : Bool → ListState → Bool

@@ -1,7 +1,7 @@
 // A trace of any size as its text, window by window, with no input and no output: a program reads bytes of the trace
 // into a buffer, and a turn puts the text of the records there into another.
 ghost use mathlib.Core.Path.{_≡_};
-ghost use Rattle.tracetext.specs.TextWindows.{textRefusalNumber, refusedRecord, isRefusal};
+ghost use Rattle.tracetext.specs.TextWindows.{textRefusalNumber, refusedRecord, isTextRefusal};
 ghost use Rattle.tracetext.specs.TextWindows.{newTextRun, listStateAt, ListsWindow};
 ghost use Rattle.tracetext.specs.TextFiles.{newTextFile, endRefusal, MakesTextTurn};
 use std::num::wrapping_add_u64;
@@ -63,8 +63,8 @@ pub fn refused_record(run: TextRun) -> u64
     wrapping_add_u64(run.records, 1)
 }
 
-pub(crate) fn is_refusal(refusal: TextRefusal) -> bool
-    ensures { λ r. ⌜ r ≡ isRefusal refusal ⌝ }
+pub(crate) fn is_text_refusal(refusal: TextRefusal) -> bool
+    ensures { λ r. ⌜ r ≡ isTextRefusal refusal ⌝ }
 {
     refusal_number(refusal) != 0
 }
@@ -84,7 +84,7 @@ pub fn end_refusal(run: TextRun) -> TextRefusal
     ensures { λ r. ⌜ r ≡ endRefusal run ⌝ }
 {
     let refusal = run.refusal;
-    if is_refusal(refusal) {
+    if is_text_refusal(refusal) {
         return refusal;
     }
     if run.records == 0 {
@@ -148,6 +148,6 @@ pub fn turn(file: TextFile, got: usize, buffer: &mut [u8], out: &mut [u8]) -> Te
             window: Window { held: left, last },
         },
         end: taken.next,
-        done: streams::nothing_left(is_refusal(refusal), last, left),
+        done: streams::nothing_left(is_text_refusal(refusal), last, left),
     }
 }

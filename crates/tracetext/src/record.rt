@@ -17,7 +17,7 @@ pub(crate) fn may_list(run: TextRun, left: &[u8], last: bool, size: usize, at: u
     ensures { λ r. ⌜ r ≡ mayListNext run (now (left .entry)) last size at ⌝ }
 {
     let refusal = run.refusal;
-    if crate::is_refusal(refusal) {
+    if crate::is_text_refusal(refusal) {
         return false;
     }
     if !buffers::has_room(size, at, LONGEST_TEXT) {

@@ -22,8 +22,8 @@ use Rattle.trace.proofs.WindowLaws.{rest-less, shows, some-left, same-next}
 use Rattle.tracewrites.specs.declared.TraceRefusal.{TraceRefusal}
 use Rattle.tracewrites.specs.declared.NextRecord.{NextRecord}
 use Rattle.tracewrites.specs.TraceWrites.{TraceWrites, withHub, withBurst, atRecord, afterAsked, afterRecord, afterRecords}
-use Rattle.tracewrites.specs.RecordTurns.{traceRefusalNumber, isRefusal, nextNumber, refusedNumber, mostValues, Taken, takenWith, notPassed, passedAs}
-use Rattle.tracewrites.specs.RecordTurns.{takenHub, takeAsked, takeFound, takeOne}
+use Rattle.tracewrites.specs.RecordTurns.{traceRefusalNumber, isTraceRefusal, nextRecordNumber, refusedNumber, mostValues, Taken, takenWith, notPassed, passedAs}
+use Rattle.tracewrites.specs.RecordTurns.{takenHub, takeAsked, takeFound, takeRecord}
 use Rattle.tracewrites.specs.WriteFiles.{withGiven, WritesRun}
 use Rattle.tracewrites.proofs.TakeLaws.{few-values}
 use Rattle.tracewrites.proofs.WritesLaws.{records-join}
@@ -35,7 +35,7 @@ and-false false = refl
 -- the reply that is still to come, with those bytes of the trace left
 abbrev pub toCome : WritesRun → List ℕ → Reply TraceWrites
 toCome run left =
-    cond (isRefusal (run .refusal)) (refusedAt (traceRefusalNumber (run .refusal)) (refusedNumber (run .refusal) (run .records)))
+    cond (isTraceRefusal (run .refusal)) (refusedAt (traceRefusalNumber (run .refusal)) (refusedNumber (run .refusal) (run .records)))
     (cond (eqb (run .records) 0 && eqb (length left) 0) (refusedAt 13 0) (afterRecords (length left) (run .records) (run .found) left))
 
 -- what is known of the bytes that are still to come: the number of a record has room for them
@@ -50,7 +50,7 @@ runAfter run taken =
 
 -- A record that is taken is refused, or passed.
 pub data TakenAs (records : ℕ) (left lent : List ℕ) : Taken → Type 0 where
-  asRefused : (refusal : TraceRefusal) → isRefusal refusal ≡ true → TakenAs records left lent (takenWith (notPassed records refusal) lent)
+  asRefused : (refusal : TraceRefusal) → isTraceRefusal refusal ≡ true → TakenAs records left lent (takenWith (notPassed records refusal) lent)
   asPassed : (next : NextRecord) (values : List ℕ) → TakenAs records left lent (takenWith (passedAs records left next) values)
 
 module _ (records : ℕ) (left lent : List ℕ) where
@@ -70,8 +70,8 @@ module _ (records : ℕ) (left lent : List ℕ) where
   asked-as (endRecord port) = asPassed _ _
   asked-as (pixelLineRecord port width pixel) = asPassed _ _
 
-  pub taken-as : TakenAs records left lent (takeOne records left lent)
-  unfolding takeOne
+  pub taken-as : TakenAs records left lent (takeRecord records left lent)
+  unfolding takeRecord
   taken-as = go (recordOf (eqb records 0) left)
     where
       go : (found : Reply TraceRecord) → TakenAs records left lent (takeFound records left lent found)
@@ -91,7 +91,7 @@ module _ (last : Bool) (run : WritesRun) (left lent rest : List ℕ) (ends : las
   some-more = omega (arith, some-left last left shown, length-append left rest)
 
   -- its number
-  number : nextNumber (run .records) ≡ run .records + 1
+  number : nextRecordNumber (run .records) ≡ run .records + 1
   number = min-eq-left {n = run .records + 1} {m = 2 ^ 64 - 1} (omega (arith, known .counts, some-more))
 
   small-length : getD left 3 0 < 256
@@ -107,7 +107,8 @@ module _ (last : Bool) (run : WritesRun) (left lent rest : List ℕ) (ends : las
   -- one that is passed
   passed-on : (found : TraceWrites)
       → afterRecords (length later) (run .records + 1) found later
-      ≡ toCome (record { records = nextNumber (run .records); refusal = TraceRefusal.NoRefusal; found = found }) later
+      ≡ toCome
+      (record { records = nextRecordNumber (run .records); refusal = TraceRefusal.NoRefusal; found = found }) later
   passed-on found = rw (number, ne-eqb (run .records + 1) 0 (λ z. omega arith))
 
   comes-hub : (address : ℕ) → Comes (given (hubRecord address))
@@ -137,17 +138,17 @@ module _ (last : Bool) (run : WritesRun) (left lent rest : List ℕ) (ends : las
       by-record Comes (rw number) first left (λ e. comes-hub (getD (dataOf left) 0 0)) comes-write on on on on on on
 
   -- what is to come is what is to come after the record
-  pub one-comes : isRefusal (run .refusal) ≡ false →
-      let taken = takeOne (run .records) left lent in
+  pub one-comes : isTraceRefusal (run .refusal) ≡ false →
+      let taken = takeRecord (run .records) left lent in
       toCome run (left ++ rest) ≡ toCome (runAfter run taken) (drop (taken .result .used) left ++ rest)
-  unfolding takeOne
+  unfolding takeRecord
   one-comes on =
       let same = same-next last first left rest ends shown in
       let start : toCome run (left ++ rest) ≡ afterRecords (length (left ++ rest)) (run .records) (run .found) (left ++ rest) =
       rw (on, ne-eqb (length (left ++ rest)) 0 (λ z. omega (arith, some-more)), and-false first) in
       start ∙ rw (same .found, same .after) at (records-join (run .records) (run .found) (left ++ rest) some-more) ∙ comes
 
-  pub one-known : let taken = takeOne (run .records) left lent in Known (runAfter run taken) (drop (taken .result .used) left ++ rest)
+  pub one-known : let taken = takeRecord (run .records) left lent in Known (runAfter run taken) (drop (taken .result .used) left ++ rest)
   one-known = go (taken-as (run .records) left lent)
     where
       go : {taken : Taken} → TakenAs (run .records) left lent taken → Known (runAfter run taken) (drop (taken .result .used) left ++ rest)

@@ -21,7 +21,7 @@ use Rattle.trace.proofs.WindowLaws.{shows}
 use Rattle.tracewrites.specs.declared.TraceRefusal.{TraceRefusal}
 use Rattle.tracewrites.specs.declared.NextRecord.{NextRecord}
 use Rattle.tracewrites.specs.declared.RecordTaken.{RecordTaken}
-use Rattle.tracewrites.specs.RecordTurns.{isRefusal, nextNumber, mostValues, mayTake, takenWith, passedAs, takenHub, takeAsked, takeOne}
+use Rattle.tracewrites.specs.RecordTurns.{isTraceRefusal, nextRecordNumber, mostValues, mayTakeRecord, takenWith, passedAs, takenHub, takeAsked, takeRecord}
 
 -- no record has more values than the most; its length byte is a byte
 pub few-values : (left : List ℕ) → getD left 3 0 < 256 → length (drop 1 (dataOf left)) ≤ mostValues
@@ -29,17 +29,17 @@ few-values left small = omega (arith, data-most left, record-most left small, le
 
 -- what the tests of a record that may be taken tell
 pub record MayTake (refusal : TraceRefusal) (left : List ℕ) (last : Bool) (size : ℕ) : Type 0 where
-  pub on : isRefusal refusal ≡ false
+  pub on : isTraceRefusal refusal ≡ false
   pub room : mostValues ≤ size
   pub shown : shows last left ≡ true
 
-pub tests : (refusal : TraceRefusal) (left : List ℕ) (last : Bool) (size : ℕ) → mayTake refusal left last size ≡ true → MayTake refusal left last size
-unfolding mayTake
+pub tests : (refusal : TraceRefusal) (left : List ℕ) (last : Bool) (size : ℕ) → mayTakeRecord refusal left last size ≡ true → MayTake refusal left last size
+unfolding mayTakeRecord
 tests refusal left last size may =
-    let on = not (isRefusal refusal) in
+    let on = not (isTraceRefusal refusal) in
     let outer = both (on && leb mostValues size) (shows last left) may in
     let inner = both on (leb mostValues size) (outer .0) in
-    record { on = not-true (isRefusal refusal) (inner .0); room = leb-true mostValues size (inner .1); shown = outer .1 }
+    record { on = not-true (isTraceRefusal refusal) (inner .0); room = leb-true mostValues size (inner .1); shown = outer .1 }
 
 -- A record that writes nothing, or else a hub record or a write.
 data Writing (records : ℕ) (left lent bytes : List ℕ) : Record → Type 0 where
@@ -61,21 +61,21 @@ writing records left lent bytes (Record.PixelLine port width pixel) = nothing re
 
 -- the record that was found
 module _ (records : ℕ) (left lent : List ℕ) (asked : Record) (found : recordOf (eqb records 0) left ≡ given (recordIn (dataOf left) asked)) {result : RecordTaken} where
-  pub one-hub : {address : ℕ} → asked ≡ Record.Hub address → result ≡ takenHub records left address → takenWith result lent ≡ takeOne records left lent
-  unfolding takeOne takeAsked
+  pub one-hub : {address : ℕ} → asked ≡ Record.Hub address → result ≡ takenHub records left address → takenWith result lent ≡ takeRecord records left lent
+  unfolding takeRecord takeAsked
   one-hub a e = rw (found, a, e)
 
   pub one-write : {offset number count : ℕ} {after : List ℕ} → getD left 3 0 < 256 → mostValues ≤ length lent → asked ≡ Record.Write offset
-      → number ≡ nextNumber records → Puts lent 0 (drop 1 (dataOf left)) after count → result ≡ passedAs records left (NextRecord.Write number offset count)
-      → takenWith result after ≡ takeOne records left lent
-  unfolding takeOne takeAsked
+      → number ≡ nextRecordNumber records → Puts lent 0 (drop 1 (dataOf left)) after count → result ≡ passedAs records left (NextRecord.Write number offset count)
+      → takenWith result after ≡ takeRecord records left lent
+  unfolding takeRecord takeAsked
   one-write small room a n puts e =
       let few = few-values left small in
       rw (found, a, e, n, whole-buffer puts (omega arith), whole-place puts (omega arith), zero-add (length (drop 1 (dataOf left))))
 
   pub one-other : ((address : ℕ) → asked ≡ Record.Hub address → ⊥) → ((offset : ℕ) → asked ≡ Record.Write offset → ⊥)
-      → result ≡ passedAs records left NextRecord.Other → takenWith result lent ≡ takeOne records left lent
-  unfolding takeOne
+      → result ≡ passedAs records left NextRecord.Other → takenWith result lent ≡ takeRecord records left lent
+  unfolding takeRecord
   one-other hub write e = rw (found, e) (go (writing records left lent (dataOf left) asked) hub write)
     where
       go : {r : Record} → Writing records left lent (dataOf left) r → ((address : ℕ) → r ≡ Record.Hub address → ⊥) → ((offset : ℕ) → r ≡ Record.Write offset → ⊥)

@@ -11,14 +11,14 @@ use Rattle.streams.specs.declared.Window.{Window}
 use Rattle.streams.specs.Streams.{afterRead, nothingLeft}
 use Rattle.tracewrites.specs.declared.RecordTaken.{RecordTaken}
 use Rattle.tracewrites.specs.declared.TraceFile.{TraceFile}
-use Rattle.tracewrites.specs.RecordTurns.{isRefusal, takenWith, takeNext, MakesRecordTurn}
+use Rattle.tracewrites.specs.RecordTurns.{isTraceRefusal, takenWith, takeNext, MakesRecordTurn}
 
 pub makes-turn : (file : TraceFile) (got : ℕ) (buffer lent : List ℕ) {window : Window} {count : ℕ} {over done : Bool} {taken : RecordTaken}
     {bufferAfter valuesAfter : List ℕ} → window ≡ afterRead (file .window) got (length buffer)
     → takenWith taken valuesAfter ≡ takeNext (window .last) (file .records) (file .refusal) (take (window .held) buffer) lent
     → count ≡ length (drop (taken .used) (take (window .held) buffer))
     → bufferAfter ≡ written buffer 0 (drop (taken .used) (take (window .held) buffer))
-    → over ≡ isRefusal (taken .refusal)
+    → over ≡ isTraceRefusal (taken .refusal)
     → done ≡ nothingLeft over (window .last) count
     → MakesRecordTurn file got buffer lent
     (record {

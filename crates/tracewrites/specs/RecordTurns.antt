@@ -29,18 +29,18 @@ traceRefusalNumber MalformedRecord = 13
 traceRefusalNumber AddressOutOfRange = 2
 traceRefusalNumber EmptyTrace = 13
 
-abbrev pub isRefusal : TraceRefusal → Bool
-isRefusal refusal = not (eqb (traceRefusalNumber refusal) 0)
+abbrev pub isTraceRefusal : TraceRefusal → Bool
+isTraceRefusal refusal = not (eqb (traceRefusalNumber refusal) 0)
 
 -- the number of the record after so many others; it has 64 bits, and stays at the largest
-abbrev pub nextNumber : ℕ → ℕ
-nextNumber records = min (records + 1) (2 ^ 64 - 1)
+abbrev pub nextRecordNumber : ℕ → ℕ
+nextRecordNumber records = min (records + 1) (2 ^ 64 - 1)
 
 -- the number of the record that is refused; 0 where none is, and in an empty trace, which has none
 abbrev pub refusedNumber : TraceRefusal → ℕ → ℕ
 refusedNumber NoRefusal records = 0
-refusedNumber MalformedRecord records = nextNumber records
-refusedNumber AddressOutOfRange records = nextNumber records
+refusedNumber MalformedRecord records = nextRecordNumber records
+refusedNumber AddressOutOfRange records = nextRecordNumber records
 refusedNumber EmptyTrace records = 0
 
 abbrev pub newTraceFile : TraceFile
@@ -52,9 +52,9 @@ mostValues = 254
 
 -- There is a record to take: none was refused; the most values have room; and the window holds a whole record or, at
 -- the trace's end (`last`), any byte.
-unfoldable pub mayTake : TraceRefusal → List ℕ → Bool → ℕ → Bool
-mayTake refusal left last size =
-    not (isRefusal refusal) && leb mostValues size && cond last (not (eqb (length left) 0)) (holdsRecord left)
+unfoldable pub mayTakeRecord : TraceRefusal → List ℕ → Bool → ℕ → Bool
+mayTakeRecord refusal left last size =
+    not (isTraceRefusal refusal) && leb mostValues size && cond last (not (eqb (length left) 0)) (holdsRecord left)
 
 -- what came of the bytes of a window, and the buffer lent for values after it
 pub record Taken : Type 0 where
@@ -71,7 +71,7 @@ notPassed records refusal = record { records = records; refusal = refusal; next 
 -- the record at the start of the bytes is passed
 abbrev pub passedAs : ℕ → List ℕ → NextRecord → RecordTaken
 passedAs records left next =
-    record { records = nextNumber records; refusal = NoRefusal; next = next; used = recordLength left }
+    record { records = nextRecordNumber records; refusal = NoRefusal; next = next; used = recordLength left }
 
 -- a hub record: 2 where the address is none that a hub has
 unfoldable pub takenHub : ℕ → List ℕ → ℕ → RecordTaken
@@ -82,7 +82,7 @@ takenHub records left address =
 unfoldable pub takeAsked : ℕ → List ℕ → List ℕ → TraceRecord → Taken
 takeAsked records left lent (hubRecord address) = takenWith (takenHub records left address) lent
 takeAsked records left lent (writeRecord offset values) =
-    takenWith (passedAs records left (Write (nextNumber records) offset (length values))) (written lent 0 values)
+    takenWith (passedAs records left (Write (nextRecordNumber records) offset (length values))) (written lent 0 values)
 takeAsked records left lent (readRecord offset) = takenWith (passedAs records left Other) lent
 takeAsked records left lent (writeQuestion address) = takenWith (passedAs records left Other) lent
 takeAsked records left lent (readQuestion address) = takenWith (passedAs records left Other) lent
@@ -95,18 +95,18 @@ takeFound records left lent (refusedWith number detail) = takenWith (notPassed r
 takeFound records left lent (given asked) = takeAsked records left lent asked
 
 -- one record
-unfoldable pub takeOne : ℕ → List ℕ → List ℕ → Taken
-takeOne records left lent = takeFound records left lent (recordOf (eqb records 0) left)
+unfoldable pub takeRecord : ℕ → List ℕ → List ℕ → Taken
+takeRecord records left lent = takeFound records left lent (recordOf (eqb records 0) left)
 
 -- where no record is to be taken: a trace that ends before its first record is empty
 unfoldable pub refusalThen : ℕ → TraceRefusal → ℕ → Bool → TraceRefusal
 refusalThen records refusal count last =
-    cond (not (isRefusal refusal) && eqb records 0 && nothingLeft false last count) EmptyTrace refusal
+    cond (not (isTraceRefusal refusal) && eqb records 0 && nothingLeft false last count) EmptyTrace refusal
 
 -- the next record of a window, if there is one to take
 unfoldable pub takeNext : Bool → ℕ → TraceRefusal → List ℕ → List ℕ → Taken
 takeNext last records refusal left lent =
-    cond (mayTake refusal left last (length lent)) (takeOne records left lent)
+    cond (mayTakeRecord refusal left last (length lent)) (takeRecord records left lent)
     (takenWith (notPassed records (refusalThen records refusal (length left) last)) lent)
 
 -- The next record was taken of the bytes of a window; what is left of them stands at the start of their buffer, whose
@@ -120,7 +120,7 @@ pub record RecordTurnMade (last : Bool) (taken : Taken) (rest buffer : List ℕ)
   pub left : bufferAfter ≡ written buffer 0 rest
   pub fits : length rest ≤ length buffer
   pub values : valuesAfter ≡ taken .values
-  pub done : result .done ≡ nothingLeft (isRefusal (taken .result .refusal)) last (length rest)
+  pub done : result .done ≡ nothingLeft (isTraceRefusal (taken .result .refusal)) last (length rest)
 
 -- a turn takes the next record of the bytes that the window holds after the read
 abbrev pub MakesRecordTurn : TraceFile → ℕ → List ℕ → List ℕ → RecordTurn → List ℕ → List ℕ → Type 0

@@ -1,13 +1,15 @@
 -- The register writes of a trace: "A script's register writes are numbered by their line (a trace's by their record)."
 -- Assumes nothing.
+use mathlib.Core.Path.{_≡_}
 use mathlib.Core.Bool.{cond}
-use mathlib.Core.List.{List, [], _++_}
-use Prim.Native.Nat.{ℕ, zero, suc, _+_}
+use mathlib.Core.List.{List, [], _++_, List·Memᴰ}
+use Prim.Native.Nat.{ℕ, zero, suc, _+_, _-_, _≤_}
 use lib.Dec.{eqb}
 use lib.ListN.{length, drop}
 use Rattle.laws.specs.Reply.{Reply, refusedWith, refused, refusedAt, given, andThen}
+use Rattle.registers.specs.Bursts.{burstWrites}
 use Rattle.hub.specs.Hubs.{isHubAddress}
-use Rattle.origins.specs.NumberedWrites.{NumberedWrite, numberedBurst}
+use Rattle.origins.specs.NumberedWrites.{NumberedWrite, unnumbered, numberedBurst, NumbersMean}
 use Rattle.trace.specs.Framing.{recordLength}
 use Rattle.trace.specs.Records.{TraceRecord, hubRecord, writeRecord, readRecord, writeQuestion, readQuestion}
 use Rattle.trace.specs.Records.{startRecord, endRecord, pixelLineRecord, recordOf}
@@ -62,3 +64,26 @@ afterRecords (suc n) records before bytes =
 -- hub": 13, and 0 for a record, since there is none.
 unfoldable pub traceWrites : List ℕ → Reply TraceWrites
 traceWrites trace = cond (eqb (length trace) 0) (refusedAt 13 0) (afterRecords (length trace) 0 noWrites trace)
+
+-- the bytes of a trace after so many of its records
+unfoldable pub pastRecords : ℕ → List ℕ → List ℕ
+pastRecords zero bytes = bytes
+pastRecords (suc n) bytes = pastRecords n (drop (recordLength bytes) bytes)
+
+-- the record that has a number, counted from 1
+abbrev pub recordNumbered : ℕ → List ℕ → Reply TraceRecord
+recordNumbered number trace = recordOf (eqb number 1) (pastRecords (number - 1) trace)
+
+-- the write is one of those of the record that has its number
+pub record InItsRecord (trace : List ℕ) (write : NumberedWrite) : Type 0 where
+  pub counted : 1 ≤ write .number
+  pub offset : ℕ
+  pub values : List ℕ
+  pub asked : recordNumbered (write .number) trace ≡ given (writeRecord offset values)
+  pub among : List·Memᴰ (unnumbered write) (burstWrites offset values)
+
+-- A law: the numbers of a trace's writes are those of its records.
+abbrev pub NumbersAreRecords : Type 0
+NumbersAreRecords =
+    (trace : List ℕ) (writes : TraceWrites) → traceWrites trace ≡ given writes
+    → NumbersMean (InItsRecord trace) (writes .writes)

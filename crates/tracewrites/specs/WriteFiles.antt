@@ -18,7 +18,7 @@ use Rattle.tracewrites.specs.declared.NextRecord.the-variants.{NoRecord,
 use Rattle.tracewrites.specs.declared.TraceFile.{TraceFile}
 use Rattle.tracewrites.specs.declared.RecordTurn.{RecordTurn}
 use Rattle.tracewrites.specs.TraceWrites.{TraceWrites, noWrites, withHub, withBurst, traceWrites}
-use Rattle.tracewrites.specs.RecordTurns.{traceRefusalNumber, isRefusal, refusedNumber, mostValues}
+use Rattle.tracewrites.specs.RecordTurns.{traceRefusalNumber, isTraceRefusal, refusedNumber, mostValues}
 use Rattle.tracewrites.specs.RecordTurns.{takeNext, MakesRecordTurn}
 
 -- what a turn gave, after what the turns before it gave: the values of a write stand at the start of the lent buffer
@@ -39,8 +39,8 @@ abbrev pub newWritesRun : WritesRun
 newWritesRun = record { records = 0; refusal = NoRefusal; found = noWrites }
 
 -- The turns as work on a file (`streams`). It puts nothing out: what the turns gave is its state.
-abbrev pub takingWrites : Work WritesRun
-takingWrites last run bytes lent =
+abbrev pub takingTraceWrites : Work WritesRun
+takingTraceWrites last run bytes lent =
     let taken = takeNext last (run .records) (run .refusal) bytes lent in
     let result = taken .result in
     record {
@@ -51,7 +51,7 @@ takingWrites last run bytes lent =
       };
       left = drop (result .used) bytes;
       put = [];
-      over = isRefusal (result .refusal);
+      over = isTraceRefusal (result .refusal);
     }
 
 -- where a program stands that has the file's state, and whose turns gave that so far
@@ -66,13 +66,13 @@ RecordTurnIsNext =
     (result : RecordTurn) (bufferAfter values : List ℕ)
     → StandsAt way (runOf file found) (file .window) buffer → ReadGave way input (file .window) got buffer
     → MakesRecordTurn file got buffer (input .lent) result bufferAfter values
-    → IsNextTurn takingWrites (length buffer) way input
+    → IsNextTurn takingTraceWrites (length buffer) way input
     (runOf (result .file) (withGiven found (result .next) values)) (result .file .window) bufferAfter [] (result .done)
 
 -- what a run comes to at its end: its refusal, with the number of the record, or what the turns gave
 abbrev pub endOfRun : WritesRun → Reply TraceWrites
 endOfRun run =
-    cond (isRefusal (run .refusal))
+    cond (isTraceRefusal (run .refusal))
     (refusedAt (traceRefusalNumber (run .refusal)) (refusedNumber (run .refusal) (run .records)))
     (given (run .found))
 
@@ -83,8 +83,8 @@ pub record GivesWrites (trace : List ℕ) (end : Way WritesRun) : Type 0 where
 
 -- However the bytes of a trace are read, into a buffer of any size that holds a record: the work ends within so many
 -- turns, with the writes of the trace or its refusal.
-abbrev pub WritesHoweverCut : Type 0
-WritesHoweverCut =
+abbrev pub TraceWritesHoweverCut : Type 0
+TraceWritesHoweverCut =
     (trace : List ℕ) (size : ℕ) (inputs : List TurnInput) → AreBytes trace → length trace < 2 ^ 64
     → longestRecord ≤ size → AllLend mostValues inputs → 2 * length trace + 1 ≤ length inputs
-    → GivesWrites trace (allTurns takingWrites size (wayFrom newWritesRun trace) inputs)
+    → GivesWrites trace (allTurns takingTraceWrites size (wayFrom newWritesRun trace) inputs)

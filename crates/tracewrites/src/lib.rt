@@ -1,8 +1,8 @@
 // The register writes of a trace of any size, with the numbers of their records, with no input and no output: a program
 // reads bytes of the trace into a buffer, and a turn takes the next record that is there.
 ghost use mathlib.Core.Path.{_≡_};
-ghost use Rattle.tracewrites.specs.RecordTurns.{traceRefusalNumber, isRefusal, nextNumber, refusedNumber};
-ghost use Rattle.tracewrites.specs.RecordTurns.{newTraceFile, MakesRecordTurn};
+ghost use Rattle.tracewrites.specs.RecordTurns.{traceRefusalNumber, isTraceRefusal, nextRecordNumber};
+ghost use Rattle.tracewrites.specs.RecordTurns.{refusedNumber, newTraceFile, MakesRecordTurn};
 use streams::Window;
 
 mod record;
@@ -66,15 +66,15 @@ pub fn refusal_number(refusal: TraceRefusal) -> u8
     }
 }
 
-pub(crate) fn is_refusal(refusal: TraceRefusal) -> bool
-    ensures { λ r. ⌜ r ≡ isRefusal refusal ⌝ }
+pub(crate) fn is_trace_refusal(refusal: TraceRefusal) -> bool
+    ensures { λ r. ⌜ r ≡ isTraceRefusal refusal ⌝ }
 {
     refusal_number(refusal) != 0
 }
 
 // The number of the record after so many others: records are counted from 1.
-pub(crate) fn next_number(records: u64) -> u64
-    ensures { λ r. ⌜ r ≡ nextNumber records ⌝ }
+pub(crate) fn next_record_number(records: u64) -> u64
+    ensures { λ r. ⌜ r ≡ nextRecordNumber records ⌝ }
 {
     if records < 0xFFFF_FFFF_FFFF_FFFF {
         return records + 1;
@@ -89,8 +89,8 @@ pub fn refused_record(file: TraceFile) -> u64
     let refusal = file.refusal;
     match refusal {
         TraceRefusal::NoRefusal => 0,
-        TraceRefusal::MalformedRecord => next_number(file.records),
-        TraceRefusal::AddressOutOfRange => next_number(file.records),
+        TraceRefusal::MalformedRecord => next_record_number(file.records),
+        TraceRefusal::AddressOutOfRange => next_record_number(file.records),
         TraceRefusal::EmptyTrace => 0,
     }
 }
@@ -130,6 +130,6 @@ pub fn turn(file: TraceFile, got: usize, buffer: &mut [u8], values: &mut [u8]) -
             window: Window { held: left, last },
         },
         next,
-        done: streams::nothing_left(is_refusal(refusal), last, left),
+        done: streams::nothing_left(is_trace_refusal(refusal), last, left),
     }
 }

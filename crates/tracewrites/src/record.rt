@@ -2,8 +2,8 @@
 ghost use mathlib.Core.Path.{_≡_};
 ghost use Prim.Native.Nat.{_≤_};
 ghost use lib.ListN.{length};
-ghost use Rattle.tracewrites.specs.RecordTurns.{mostValues, mayTake, takenWith, notPassed, passedAs};
-ghost use Rattle.tracewrites.specs.RecordTurns.{takenHub, takeOne, refusalThen, takeNext};
+ghost use Rattle.tracewrites.specs.RecordTurns.{mostValues, mayTakeRecord, takenWith, notPassed, passedAs};
+ghost use Rattle.tracewrites.specs.RecordTurns.{takenHub, takeRecord, refusalThen, takeNext};
 use crate::NextRecord;
 use crate::RecordTaken;
 use crate::TraceRefusal;
@@ -13,10 +13,10 @@ use trace::Record;
 // The values that have to have room for a record to be taken: no record has more.
 const MOST_VALUES: usize = 254;
 
-fn may_take(refusal: TraceRefusal, left: &[u8], last: bool, size: usize) -> bool
-    ensures { λ r. ⌜ r ≡ mayTake refusal (now (left .entry)) last size ⌝ }
+fn may_take_record(refusal: TraceRefusal, left: &[u8], last: bool, size: usize) -> bool
+    ensures { λ r. ⌜ r ≡ mayTakeRecord refusal (now (left .entry)) last size ⌝ }
 {
-    if crate::is_refusal(refusal) {
+    if crate::is_trace_refusal(refusal) {
         return false;
     }
     if size < MOST_VALUES {
@@ -45,7 +45,7 @@ fn passed_as(records: u64, left: &[u8], next: NextRecord) -> RecordTaken
     ensures { λ r. ⌜ r ≡ passedAs records (now (left .entry)) next ⌝ }
 {
     RecordTaken {
-        records: crate::next_number(records),
+        records: crate::next_record_number(records),
         refusal: TraceRefusal::NoRefusal,
         next,
         used: trace::record_length(left),
@@ -62,10 +62,10 @@ fn taken_hub(records: u64, left: &[u8], address: u8) -> RecordTaken
 }
 
 // Takes the record at the start of what is left of a window; one that is refused stays.
-fn take_one(records: u64, left: &[u8], values: &mut [u8]) -> RecordTaken
+fn take_record(records: u64, left: &[u8], values: &mut [u8]) -> RecordTaken
     requires { ⌜ mostValues ≤ length (now values) ⌝ }
     ensures { λ r. ⌜ takenWith r (now (values .exit))
-        ≡ takeOne records (now (left .entry)) (now (values .entry)) ⌝ }
+        ≡ takeRecord records (now (left .entry)) (now (values .entry)) ⌝ }
 {
     let FoundRecord::Found(asked) = trace::record_at(left, records == 0) else {
         return not_passed(records, TraceRefusal::MalformedRecord);
@@ -74,7 +74,7 @@ fn take_one(records: u64, left: &[u8], values: &mut [u8]) -> RecordTaken
         return taken_hub(records, left, address);
     }
     if let Record::Write { offset } = asked {
-        let number = crate::next_number(records);
+        let number = crate::next_record_number(records);
         let count = buffers::put_bytes(values, 0, trace::values(left));
         return passed_as(
             records,
@@ -93,7 +93,7 @@ fn take_one(records: u64, left: &[u8], values: &mut [u8]) -> RecordTaken
 fn refusal_then(records: u64, refusal: TraceRefusal, count: usize, last: bool) -> TraceRefusal
     ensures { λ r. ⌜ r ≡ refusalThen records refusal count last ⌝ }
 {
-    if crate::is_refusal(refusal) {
+    if crate::is_trace_refusal(refusal) {
         return refusal;
     }
     if records != 0 {
@@ -116,8 +116,8 @@ pub(crate) fn take_next(
     ensures { λ r. ⌜ takenWith r (now (values .exit))
         ≡ takeNext last records refusal (now (left .entry)) (now (values .entry)) ⌝ }
 {
-    if may_take(refusal, left, last, values.len()) {
-        return take_one(records, left, values);
+    if may_take_record(refusal, left, last, values.len()) {
+        return take_record(records, left, values);
     }
     not_passed(records, refusal_then(records, refusal, left.len(), last))
 }

@@ -25,8 +25,8 @@ abbrev pub address7 : ℕ → ℕ
 address7 register = register / 2
 
 -- the alias register "has the address in bits 7 to 1. An alias of zero is off, so address 0 finds nobody."
-unfoldable pub isAlias : ℕ → ℕ → Bool
-isAlias register address = not (eqb (address7 register) 0) && eqb (address7 register) address
+unfoldable pub aliasMatches : ℕ → ℕ → Bool
+aliasMatches register address = not (eqb (address7 register) 0) && eqb (address7 register) address
 
 -- a port's device
 abbrev pub deviceOn : ℕ → Remote → PortAnswer
@@ -36,7 +36,7 @@ deviceOn port remote = Device (record { port = port; remote = remote })
 unfoldable pub targetFrom : List ℕ → ℕ → ℕ → ℕ → ℕ → PortAnswer
 targetFrom pages port address k zero = NoMatch
 targetFrom pages port address k (suc n) =
-    cond (isAlias (pageAt pages port (TARGET-ALIAS-0 + k)) address)
+    cond (aliasMatches (pageAt pages port (TARGET-ALIAS-0 + k)) address)
     (deviceOn port (Target k (address7 (pageAt pages port (TARGET-ID-0 + k)))))
     (targetFrom pages port address (suc k) n)
 
@@ -46,7 +46,7 @@ targetFrom pages port address k (suc n) =
 unfoldable pub onPort : List ℕ → ℕ → ℕ → PortAnswer
 onPort pages port address =
     cond (bit 6 (pageAt pages port BCC-CONFIG))
-    (cond (isAlias (pageAt pages port SER-ALIAS-ID) address)
+    (cond (aliasMatches (pageAt pages port SER-ALIAS-ID) address)
     (deviceOn port (Serializer (address7 (pageAt pages port SER-ID))))
     (targetFrom pages port address 0 8))
     NoMatch

@@ -3,8 +3,8 @@ ghost use mathlib.Core.Path.{_≡_};
 ghost use mathlib.Core.List.{[], _∷_, _++_};
 ghost use Prim.Native.Nat.{_<_};
 ghost use lib.ListN.{take};
-ghost use Rattle.translation.specs.Translation.{isAlias, targetFrom, onPort, onPorts, receivers, addresseeOf};
-ghost use Rattle.translation.specs.Translation.{devicesOf, writeReply, whoHearsWrite};
+ghost use Rattle.translation.specs.Translation.{aliasMatches, targetFrom, onPort, onPorts, receivers};
+ghost use Rattle.translation.specs.Translation.{addresseeOf, devicesOf, writeReply, whoHearsWrite};
 ghost use Rattle.translation.specs.Translation.{answered, readReply, whoAnswersRead};
 ghost use Rattle.translation.specs.declared.PortAnswer.the-variants.{NoMatch};
 ghost use Rattle.translation.specs.Collecting.{collected};
@@ -82,8 +82,8 @@ fn addressee_of(hub: Hub, address: u8) -> Addressee
 }
 
 // Whether an alias register is on and has the address in its bits 7 to 1.
-fn is_alias(register: u8, address: u8) -> bool
-    ensures { λ r. ⌜ r ≡ isAlias register address ⌝ }
+fn alias_matches(register: u8, address: u8) -> bool
+    ensures { λ r. ⌜ r ≡ aliasMatches register address ⌝ }
 {
     let alias = register / 2;
     if alias == 0 {
@@ -100,7 +100,7 @@ fn target_on(pages: &[u8; 1024], port: u8, address: u8) -> PortAnswer
     let page = 256 * (port as usize);
     let mut k: u8 = 0;
     while k < 8 {
-        if is_alias(pages[page + (map::TARGET_ALIAS_0 + k as usize)], address) {
+        if alias_matches(pages[page + (map::TARGET_ALIAS_0 + k as usize)], address) {
             return PortAnswer::Device(PortDevice {
                 port,
                 remote: Remote::Target {
@@ -123,7 +123,7 @@ fn on_port(pages: &[u8; 1024], port: u8, address: u8) -> PortAnswer
     if !bits::is_set(pages[page + map::BCC_CONFIG], 6) {
         return PortAnswer::NoMatch;
     }
-    if is_alias(pages[page + map::SER_ALIAS_ID], address) {
+    if alias_matches(pages[page + map::SER_ALIAS_ID], address) {
         return PortAnswer::Device(PortDevice {
             port,
             remote: Remote::Serializer {

@@ -18,8 +18,8 @@ use Rattle.playback.specs.Windows.{newSession, WindowState, stateAt, playWindow
 use Rattle.turns.specs.declared.FileRun.{FileRun}
 use Rattle.turns.specs.declared.TurnEnd.{TurnEnd}
 
-abbrev pub newRun : FileRun
-newRun = record { session = newSession; window = newWindow }
+abbrev pub newFileRun : FileRun
+newFileRun = record { session = newSession; window = newWindow }
 
 -- the bytes of a window, played from its start as the player's definition says
 abbrev pub windowPlayed : Bool → Session → List ℕ → List ℕ → List ℕ → WindowState

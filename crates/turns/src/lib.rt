@@ -1,7 +1,7 @@
 // A run through a trace file, turn by turn, with no input and no output: a program reads bytes into a buffer, a turn
 // plays the records there, and the program does with their text and with the session what it likes.
 ghost use mathlib.Core.Path.{_≡_};
-ghost use Rattle.turns.specs.Turns.{newRun, MakesTurn};
+ghost use Rattle.turns.specs.Turns.{newFileRun, MakesTurn};
 use playback::Session;
 use streams::Window;
 
@@ -20,7 +20,7 @@ pub struct TurnEnd {
 
 // The run before a byte of the file is read.
 pub fn new_run() -> FileRun
-    ensures { λ r. ⌜ r ≡ newRun ⌝ }
+    ensures { λ r. ⌜ r ≡ newFileRun ⌝ }
 {
     let session = playback::new();
     let window = streams::new_window();

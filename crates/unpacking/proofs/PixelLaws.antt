@@ -15,10 +15,10 @@ use Rattle.formats.specs.declared.Format.the-variants.{Raw10, Raw12}
 use Rattle.packing.specs.Raw.{groupPixels, groupBytes, lowBits, upperByte, lowByte, packGroup, pixelLimit}
 use Rattle.packing.proofs.RawLaws.{byte-more, group-is}
 use Rattle.packing.proofs.CheckLaws.{limit-positive, fit-below}
-use Rattle.unpacking.specs.Pixels.{joined, unpackGroup, unpackGroups, pixelsOf}
+use Rattle.unpacking.specs.Pixels.{joinedPixels, unpackGroup, unpackGroups, pixelsOf}
 use Rattle.unpacking.specs.RoundTrip.{GroupsUndone}
 
-length-joined : (format : Format) (uppers : List ℕ) (low : ℕ) → length (joined format uppers low) ≡ length uppers
+length-joined : (format : Format) (uppers : List ℕ) (low : ℕ) → length (joinedPixels format uppers low) ≡ length uppers
 length-joined format [] low = refl
 length-joined format (upper ∷ uppers) low = ap suc (length-joined format uppers (low / 2 ^ lowBits format))
 
@@ -47,12 +47,12 @@ others-back : (format : Format) (pixel others : ℕ) → (pixel % 2 ^ lowBits fo
 others-back Raw10 pixel others = omega arith
 others-back Raw12 pixel others = omega arith
 
-joined-packed : (format : Format) (pixels : List ℕ) → AllBelow (pixelLimit format) pixels → joined format (map (upperByte format) pixels) (lowByte format pixels) ≡ pixels
+joined-packed : (format : Format) (pixels : List ℕ) → AllBelow (pixelLimit format) pixels → joinedPixels format (map (upperByte format) pixels) (lowByte format pixels) ≡ pixels
 joined-packed format [] below = refl
 joined-packed format (pixel ∷ pixels) below =
     let others = lowByte format pixels in
     ap₂ _∷_ (pixel-back format pixel others (below 0))
-    (ap (joined format (map (upperByte format) pixels)) (others-back format pixel others) ∙ joined-packed format pixels (λ i. below (suc i)))
+    (ap (joinedPixels format (map (upperByte format) pixels)) (others-back format pixel others) ∙ joined-packed format pixels (λ i. below (suc i)))
 
 -- the two parts of a pixel that was joined
 upper-back : (format : Format) (upper low : ℕ) → upper < 256 → upperByte format (2 ^ lowBits format * upper + low % 2 ^ lowBits format) ≡ upper
@@ -64,7 +64,7 @@ low-back : (format : Format) (upper low : ℕ)
 low-back Raw10 upper low = omega arith
 low-back Raw12 upper low = omega arith
 
-uppers-joined : (format : Format) (uppers : List ℕ) (low : ℕ) → AreBytes uppers → map (upperByte format) (joined format uppers low) ≡ uppers
+uppers-joined : (format : Format) (uppers : List ℕ) (low : ℕ) → AreBytes uppers → map (upperByte format) (joinedPixels format uppers low) ≡ uppers
 uppers-joined format [] low bytes = refl
 uppers-joined format (upper ∷ uppers) low bytes =
     ap₂ _∷_ (upper-back format upper low (bytes 0)) (uppers-joined format uppers (low / 2 ^ lowBits format) (λ i. bytes (suc i)))
@@ -74,7 +74,7 @@ fewer : (format : Format) (n low : ℕ) → low < (2 ^ lowBits format) ^ suc n �
 fewer Raw10 n low h = omega (arith, pow-suc 4 n)
 fewer Raw12 n low h = omega (arith, pow-suc 16 n)
 
-low-joined : (format : Format) (uppers : List ℕ) (low : ℕ) → low < (2 ^ lowBits format) ^ length uppers → lowByte format (joined format uppers low) ≡ low
+low-joined : (format : Format) (uppers : List ℕ) (low : ℕ) → low < (2 ^ lowBits format) ^ length uppers → lowByte format (joinedPixels format uppers low) ≡ low
 low-joined format [] low h = omega (arith, pow-zero (2 ^ lowBits format))
 low-joined format (upper ∷ uppers) low h =
     let m = 2 ^ lowBits format in
@@ -99,7 +99,7 @@ packed-group format pixels h below =
     let uppers = map (upperByte format) pixels in
     let low = lowByte format pixels in
     let l : length uppers ≡ groupPixels format = length-map pixels (upperByte format) ∙ h in
-    rw (group-is format pixels) (ap₂ (joined format) (take-at uppers (low ∷ []) (groupPixels format) l) (getD-at uppers low [] 0 (groupPixels format) l))
+    rw (group-is format pixels) (ap₂ (joinedPixels format) (take-at uppers (low ∷ []) (groupPixels format) l) (getD-at uppers low [] 0 (groupPixels format) l))
     ∙ joined-packed format pixels below
 
 pub unpacked-group : (format : Format) (bytes : List ℕ) → length bytes ≡ groupBytes format → AreBytes bytes
@@ -121,7 +121,7 @@ pixel-small : (format : Format) (upper low : ℕ) → upper < 256 → 2 ^ lowBit
 pixel-small Raw10 upper low h = omega arith
 pixel-small Raw12 upper low h = omega arith
 
-joined-below : (format : Format) (uppers : List ℕ) (low : ℕ) → AreBytes uppers → AllBelow (pixelLimit format) (joined format uppers low)
+joined-below : (format : Format) (uppers : List ℕ) (low : ℕ) → AreBytes uppers → AllBelow (pixelLimit format) (joinedPixels format uppers low)
 joined-below format [] low bytes i = limit-positive format
 joined-below format (upper ∷ uppers) low bytes zero = pixel-small format upper low (bytes 0)
 joined-below format (upper ∷ uppers) low bytes (suc i) = joined-below format uppers (low / 2 ^ lowBits format) (λ k. bytes (suc k)) i

@@ -9,15 +9,15 @@ use Rattle.packing.specs.Raw.{groupPixels, groupBytes, lowBits}
 
 -- Pixels from their upper bytes and the byte of their low bits, of which the first pixel has the lowest
 -- ("first pixel in bits 1 and 0", "first pixel in the low half").
-abbrev pub joined : Format → List ℕ → ℕ → List ℕ
-joined format [] low = []
-joined format (upper ∷ uppers) low =
-    (2 ^ lowBits format * upper + low % 2 ^ lowBits format) ∷ joined format uppers (low / 2 ^ lowBits format)
+abbrev pub joinedPixels : Format → List ℕ → ℕ → List ℕ
+joinedPixels format [] low = []
+joinedPixels format (upper ∷ uppers) low =
+    (2 ^ lowBits format * upper + low % 2 ^ lowBits format) ∷ joinedPixels format uppers (low / 2 ^ lowBits format)
 
 -- the pixels of a group of bytes: "the upper eight bits of each, then a byte of the low pairs",
 -- "then the low four bits"
 unfoldable pub unpackGroup : Format → List ℕ → List ℕ
-unpackGroup format bytes = joined format (take (groupPixels format) bytes) (getD bytes (groupPixels format) 0)
+unpackGroup format bytes = joinedPixels format (take (groupPixels format) bytes) (getD bytes (groupPixels format) 0)
 
 -- the first n groups, one after the other
 abbrev pub unpackGroups : Format → ℕ → List ℕ → List ℕ

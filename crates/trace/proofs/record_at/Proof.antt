@@ -13,8 +13,8 @@ holds-record-requires c κs = search needs
 has-mark-requires : tie.Need-has-mark-requires
 has-mark-requires c κs = search needs
 
-kind-of-requires : tie.Need-kind-of-requires
-kind-of-requires c κs = search needs
+kind-byte-requires : tie.Need-kind-byte-requires
+kind-byte-requires c κs = search needs
 
 data-of-requires : tie.Need-data-of-requires
 data-of-requires c κs = search needs
@@ -34,7 +34,7 @@ returns c =
       holds .if1 .taken,
       sym (marked .has-mark .ensures),
       kind .before .if2 .taken,
-      sym (kind .kind-of .ensures),
+      sym (kind .kind-byte .ensures),
       sym (part .data-of .ensures),
     )
     (c .kind-record .ensures)
@@ -51,7 +51,7 @@ record-at-spec =
     (tie.spec
     holds-record-requires
     has-mark-requires
-    kind-of-requires
+    kind-byte-requires
     data-of-requires
     kind-record-requires
     returns

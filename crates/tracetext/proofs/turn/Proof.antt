@@ -29,8 +29,8 @@ text-window-requires c κs = search needs
 slide-requires : tie.Need-slide-requires
 slide-requires c κs = search needs
 
-is-refusal-requires : tie.Need-is-refusal-requires
-is-refusal-requires c κs = search needs
+is-text-refusal-requires : tie.Need-is-text-refusal-requires
+is-text-refusal-requires c κs = search needs
 
 nothing-left-requires : tie.Need-nothing-left-requires
 nothing-left-requires c κs = search needs
@@ -49,7 +49,7 @@ returns c =
     let read = listed .before .before .before in
     let x = startAt read .args in
     makes-turn (x .file) (x .got) (x .buffer .now) (x .out .now) (read .after-read .ensures .0) (listed .text-window .ensures)
-    (slid .slide .ensures .0) (slid .slide .ensures .1) (told .is-refusal .ensures) (c .nothing-left .ensures)
+    (slid .slide .ensures .0) (slid .slide .ensures .1) (told .is-text-refusal .ensures) (c .nothing-left .ensures)
 
 pub turn-spec : {M : Type 1} → statement M
 turn-spec =
@@ -60,7 +60,7 @@ turn-spec =
     slice-aggregate-text-window
     text-window-requires
     slide-requires
-    is-refusal-requires
+    is-text-refusal-requires
     nothing-left-requires
     same-length
     same-length-2

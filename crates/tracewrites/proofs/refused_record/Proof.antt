@@ -10,14 +10,14 @@ enum-told c = search needs
 enum-told-2 : tie.Need-enum-told-2
 enum-told-2 c = search needs
 
-next-number-requires : tie.Need-next-number-requires
-next-number-requires c κs = search needs
+next-record-number-requires : tie.Need-next-record-number-requires
+next-record-number-requires c κs = search needs
 
 enum-told-3 : tie.Need-enum-told-3
 enum-told-3 c = search needs
 
-next-number-requires-2 : tie.Need-next-number-requires-2
-next-number-requires-2 c κs = search needs
+next-record-number-requires-2 : tie.Need-next-record-number-requires-2
+next-record-number-requires-2 c κs = search needs
 
 enum-told-4 : tie.Need-enum-told-4
 enum-told-4 c = search needs
@@ -26,10 +26,10 @@ returns : tie.Need-returns
 returns c = search needs
 
 returns-2 : tie.Need-returns-2
-returns-2 c = rw (c .before .enum-told2 .given .1) (c .next-number .ensures)
+returns-2 c = rw (c .before .enum-told2 .given .1) (c .next-record-number .ensures)
 
 returns-3 : tie.Need-returns-3
-returns-3 c = rw (c .before .enum-told3 .given .1) (c .next-number2 .ensures)
+returns-3 c = rw (c .before .enum-told3 .given .1) (c .next-record-number2 .ensures)
 
 returns-4 : tie.Need-returns-4
 returns-4 c = search needs
@@ -40,9 +40,9 @@ refused-record-spec =
     (tie.spec
     enum-told
     enum-told-2
-    next-number-requires
+    next-record-number-requires
     enum-told-3
-    next-number-requires-2
+    next-record-number-requires-2
     enum-told-4
     returns
     returns-2

@@ -29,8 +29,8 @@ take-next-requires c κs = search needs
 slide-requires : tie.Need-slide-requires
 slide-requires c κs = search needs
 
-is-refusal-requires : tie.Need-is-refusal-requires
-is-refusal-requires c κs = search needs
+is-trace-refusal-requires : tie.Need-is-trace-refusal-requires
+is-trace-refusal-requires c κs = search needs
 
 nothing-left-requires : tie.Need-nothing-left-requires
 nothing-left-requires c κs = search needs
@@ -49,7 +49,7 @@ returns c =
     let read = taken .before .before .before in
     let x = startAt read .args in
     makes-turn (x .file) (x .got) (x .buffer .now) (x .values .now) (read .after-read .ensures .0) (taken .take-next .ensures)
-    (slid .slide .ensures .0) (slid .slide .ensures .1) (over .is-refusal .ensures) (c .nothing-left .ensures)
+    (slid .slide .ensures .0) (slid .slide .ensures .1) (over .is-trace-refusal .ensures) (c .nothing-left .ensures)
 
 pub turn-spec : {M : Type 1} → statement M
 turn-spec =
@@ -60,7 +60,7 @@ turn-spec =
     slice-aggregate-take-next
     take-next-requires
     slide-requires
-    is-refusal-requires
+    is-trace-refusal-requires
     nothing-left-requires
     same-length
     same-length-2

@@ -23,14 +23,14 @@ returns : tie.Need-returns
 unfolding onPort
 returns c = rw (sym (c .before .is-set .ensures) ∙ not-true _ (c .if1 .taken))
 
-add-is-alias : tie.Need-add-is-alias
-add-is-alias c = search needs
+add-alias-matches : tie.Need-add-alias-matches
+add-alias-matches c = search needs
 
-element-copy-out-is-alias : tie.Need-element-copy-out-is-alias
-element-copy-out-is-alias c = search needs
+element-copy-out-alias-matches : tie.Need-element-copy-out-alias-matches
+element-copy-out-alias-matches c = search needs
 
-is-alias-requires : tie.Need-is-alias-requires
-is-alias-requires c κs = search needs
+alias-matches-requires : tie.Need-alias-matches-requires
+alias-matches-requires c κs = search needs
 
 add-t14 : tie.Need-add-t14
 add-t14 c = search needs
@@ -43,7 +43,7 @@ unfolding onPort
 returns-2 c =
     let b = c .before .before in
     let pass = sym (b .before .before .before .is-set .ensures) ∙ not-false _ (b .before .before .if1 .left) in
-    rw (pass, sym (b .is-alias .ensures) ∙ c .before .if2 .taken)
+    rw (pass, sym (b .alias-matches .ensures) ∙ c .before .if2 .taken)
 
 target-on-requires : tie.Need-target-on-requires
 target-on-requires c κs = search needs
@@ -53,7 +53,7 @@ unfolding onPort
 returns-3 c =
     let b = c .before .before in
     let pass = sym (b .before .before .before .is-set .ensures) ∙ not-false _ (b .before .before .if1 .left) in
-    c .target-on .ensures ∙ rw (pass, sym (b .is-alias .ensures) ∙ c .before .if2 .left)
+    c .target-on .ensures ∙ rw (pass, sym (b .alias-matches .ensures) ∙ c .before .if2 .left)
 
 pub on-port-spec : {M : Type 1} → statement M
 on-port-spec =
@@ -64,9 +64,9 @@ on-port-spec =
     element-copy-out-is-set
     is-set-requires
     returns
-    add-is-alias
-    element-copy-out-is-alias
-    is-alias-requires
+    add-alias-matches
+    element-copy-out-alias-matches
+    alias-matches-requires
     add-t14
     element-copy-out-t17
     returns-2

@@ -9,7 +9,7 @@ use native.Mathlib.Numerals.{add-one}
 use Rattle.registers.specs.RegisterMap.{TARGET-ID-0, TARGET-ALIAS-0}
 use Rattle.registers.specs.RegisterFiles.{pageAt}
 use Rattle.translation.specs.declared.Remote.the-variants.{Target}
-use Rattle.translation.specs.Translation.{address7, isAlias, deviceOn, targetFrom}
+use Rattle.translation.specs.Translation.{address7, aliasMatches, deviceOn, targetFrom}
 use borrow.Author.Needs.{needs}
 use native.Mathlib.Omega.{arith}
 use Rattle.translation.proofs.target_on.Statement.{statement}
@@ -18,7 +18,7 @@ use Rattle.translation.proofs.target_on.Tie as tie
 -- the search at number k
 target-step : (pages : List ℕ) (port address k : ℕ) → k < 8
     → targetFrom pages port address k (8 - k)
-    ≡ cond (isAlias (pageAt pages port (TARGET-ALIAS-0 + k)) address)
+    ≡ cond (aliasMatches (pageAt pages port (TARGET-ALIAS-0 + k)) address)
     (deviceOn port (Target k (address7 (pageAt pages port (TARGET-ID-0 + k)))))
     (targetFrom pages port address (k + 1) (8 - (k + 1)))
 unfolding targetFrom
@@ -37,20 +37,20 @@ mul-page c = search needs
 loop-holds : tie.Need-loop-holds Inv-loop μ-loop
 loop-holds c = (search needs, refl)
 
-cast-is-alias : tie.Need-cast-is-alias Inv-loop μ-loop
-cast-is-alias c = search needs
+cast-alias-matches : tie.Need-cast-alias-matches Inv-loop μ-loop
+cast-alias-matches c = search needs
 
-add-is-alias : tie.Need-add-is-alias Inv-loop μ-loop
-add-is-alias c = search needs
+add-alias-matches : tie.Need-add-alias-matches Inv-loop μ-loop
+add-alias-matches c = search needs
 
-add-is-alias-2 : tie.Need-add-is-alias-2 Inv-loop μ-loop
-add-is-alias-2 c = search needs
+add-alias-matches-2 : tie.Need-add-alias-matches-2 Inv-loop μ-loop
+add-alias-matches-2 c = search needs
 
-element-copy-out-is-alias : tie.Need-element-copy-out-is-alias Inv-loop μ-loop
-element-copy-out-is-alias c = search needs
+element-copy-out-alias-matches : tie.Need-element-copy-out-alias-matches Inv-loop μ-loop
+element-copy-out-alias-matches c = search needs
 
-is-alias-requires : tie.Need-is-alias-requires Inv-loop μ-loop
-is-alias-requires c κs = search needs
+alias-matches-requires : tie.Need-alias-matches-requires Inv-loop μ-loop
+alias-matches-requires c κs = search needs
 
 cast-t15 : tie.Need-cast-t15 Inv-loop μ-loop
 cast-t15 c = search needs
@@ -67,7 +67,7 @@ element-copy-out-t20 c = search needs
 returns : tie.Need-returns Inv-loop μ-loop
 returns c =
     let l = c .before .before .before .before .before .loop in
-    let hit = sym (c .before .before .is-alias .ensures) ∙ c .before .if1 .taken in
+    let hit = sym (c .before .before .alias-matches .ensures) ∙ c .before .if1 .taken in
     sym (target-step _ _ _ (l .k) (omega arith) ∙ rw hit) ∙ l .inv .1
 
 add-k : tie.Need-add-k Inv-loop μ-loop
@@ -79,7 +79,7 @@ loop-less c = search needs
 loop-again : tie.Need-loop-again Inv-loop μ-loop
 loop-again c =
     let l = c .before .before .before .before .loop in
-    let missed = sym (c .before .is-alias .ensures) ∙ c .if1 .left in
+    let missed = sym (c .before .alias-matches .ensures) ∙ c .if1 .left in
     (omega arith, sym (target-step _ _ _ (l .k) (omega arith) ∙ rw missed) ∙ l .inv .1)
 
 returns-2 : tie.Need-returns-2 Inv-loop μ-loop
@@ -97,11 +97,11 @@ target-on-spec =
     μ-loop
     mul-page
     loop-holds
-    cast-is-alias
-    add-is-alias
-    add-is-alias-2
-    element-copy-out-is-alias
-    is-alias-requires
+    cast-alias-matches
+    add-alias-matches
+    add-alias-matches-2
+    element-copy-out-alias-matches
+    alias-matches-requires
     cast-t15
     add-t16
     add-t17

@@ -5,13 +5,13 @@ use mathlib.Core.Bool.{false}
 use Prim.Native.Nat.{_-_, _≤_}
 use native.Mathlib.Omega.{arith}
 use borrow.Author.Needs.{needs}
-use Rattle.clashes.specs.Addresses.{reaches, anyBelow}
+use Rattle.clashes.specs.Addresses.{addressReaches, anyBelow}
 use Rattle.clashes.proofs.AddressLaws.{any-none, any-more, reached-hit, reached-none}
 use Rattle.clashes.proofs.addresses.is_reached.Statement.{statement}
 use Rattle.clashes.proofs.addresses.is_reached.Tie as tie
 
 abbrev Inv-loop : tie.InvT-loop
-Inv-loop hub port address₀ address = (address ≤ 128) × (anyBelow (λ a. reaches hub a port) address ≡ false)
+Inv-loop hub port address₀ address = (address ≤ 128) × (anyBelow (λ a. addressReaches hub a port) address ≡ false)
 
 abbrev μ-loop : tie.MeasureT-loop
 μ-loop hub port address₀ address = 128 - address
@@ -19,13 +19,13 @@ abbrev μ-loop : tie.MeasureT-loop
 loop-holds : tie.Need-loop-holds Inv-loop μ-loop
 loop-holds c = (omega arith, any-none _)
 
-reaches-requires : tie.Need-reaches-requires Inv-loop μ-loop
-reaches-requires c κs = search needs
+address-reaches-requires : tie.Need-address-reaches-requires Inv-loop μ-loop
+address-reaches-requires c κs = search needs
 
 returns : tie.Need-returns Inv-loop μ-loop
 returns c =
     let l = c .before .before .before .loop in
-    sym (reached-hit _ _ (l .address) (omega arith) (sym (c .before .reaches .ensures) ∙ c .if1 .taken))
+    sym (reached-hit _ _ (l .address) (omega arith) (sym (c .before .address-reaches .ensures) ∙ c .if1 .taken))
 
 add-address : tie.Need-add-address Inv-loop μ-loop
 add-address c = omega arith
@@ -36,7 +36,7 @@ loop-less c = omega arith
 loop-again : tie.Need-loop-again Inv-loop μ-loop
 loop-again c =
     let l = c .before .before .before .loop in
-    (omega arith, any-more _ (l .address) (l .inv .1) (sym (c .before .reaches .ensures) ∙ c .if1 .left))
+    (omega arith, any-more _ (l .address) (l .inv .1) (sym (c .before .address-reaches .ensures) ∙ c .if1 .left))
 
 returns-2 : tie.Need-returns-2 Inv-loop μ-loop
 returns-2 c =
@@ -50,7 +50,7 @@ is-reached-spec =
     Inv-loop
     μ-loop
     loop-holds
-    reaches-requires
+    address-reaches-requires
     returns
     add-address
     loop-less

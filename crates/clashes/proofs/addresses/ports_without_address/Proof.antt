@@ -17,14 +17,14 @@ has-no-address-requires-3 c κs = search needs
 has-no-address-requires-4 : tie.Need-has-no-address-requires-4
 has-no-address-requires-4 c κs = search needs
 
-mask-of-requires : tie.Need-mask-of-requires
-mask-of-requires c κs = search needs
+mask-of-four-requires : tie.Need-mask-of-four-requires
+mask-of-four-requires c κs = search needs
 
 returns : tie.Need-returns
 returns c =
     mask-by _
     (c .before .before .before .before .has-no-address .ensures) (c .before .before .before .has-no-address2 .ensures)
-    (c .before .before .has-no-address3 .ensures) (c .before .has-no-address4 .ensures) (c .mask-of .ensures)
+    (c .before .before .has-no-address3 .ensures) (c .before .has-no-address4 .ensures) (c .mask-of-four .ensures)
 
 pub ports-without-address-spec : {M : Type 1} → statement M
 ports-without-address-spec =
@@ -34,5 +34,5 @@ ports-without-address-spec =
     has-no-address-requires-2
     has-no-address-requires-3
     has-no-address-requires-4
-    mask-of-requires
+    mask-of-four-requires
     returns)

@@ -17,14 +17,14 @@ leaves-on-requires-3 c κs = search needs
 leaves-on-requires-4 : tie.Need-leaves-on-requires-4
 leaves-on-requires-4 c κs = search needs
 
-mask-of-requires : tie.Need-mask-of-requires
-mask-of-requires c κs = search needs
+mask-of-four-requires : tie.Need-mask-of-four-requires
+mask-of-four-requires c κs = search needs
 
 returns : tie.Need-returns
 returns c =
     mask-by _
     (c .before .before .before .before .leaves-on .ensures) (c .before .before .before .leaves-on2 .ensures)
-    (c .before .before .leaves-on3 .ensures) (c .before .leaves-on4 .ensures) (c .mask-of .ensures)
+    (c .before .before .leaves-on3 .ensures) (c .before .leaves-on4 .ensures) (c .mask-of-four .ensures)
 
 pub ports-on-spec : {M : Type 1} → statement M
 ports-on-spec =
@@ -34,5 +34,5 @@ ports-on-spec =
     leaves-on-requires-2
     leaves-on-requires-3
     leaves-on-requires-4
-    mask-of-requires
+    mask-of-four-requires
     returns)

@@ -3,12 +3,19 @@
 use mathlib.Core.Path.{sym, ap, _∙_}
 use Rattle.translation.specs.declared.WriteAnswer.{WriteAnswer}
 use Rattle.translation.specs.Translation.{writeReply}
+use Rattle.origins.specs.declared.RegistersWithOrigins.{RegistersWithOrigins}
+use Rattle.endstate.specs.declared.lines.Lines.{Lines}
 use Rattle.endstate.specs.RisingLines.{risingLines}
+use Rattle.endstate.specs.LineRows.{linesRow}
 use Rattle.endstate.specs.Addresses.{devicesOrigins, hearers}
 use Rattle.endstate.proofs.AddressLaws.{no-device, lines-by}
 use borrow.Author.Needs.{needs}
 use Rattle.endstate.proofs.addresses.address_lines.Statement.{statement}
 use Rattle.endstate.proofs.addresses.address_lines.Tie as tie
+
+-- the lines by the answer
+abbrev lines-of : RegistersWithOrigins → WriteAnswer → Lines
+lines-of state answer = linesRow (risingLines (devicesOrigins state (hearers (writeReply answer))))
 
 who-hears-write-requires : tie.Need-who-hears-write-requires
 who-hears-write-requires c κs = search needs
@@ -42,7 +49,7 @@ returns c =
     let r = c .before .before .before in
     let a = r .before .args in
     no-device (a .state) (c .no-lines .ensures)
-    ∙ ap (λ (w : WriteAnswer). risingLines (devicesOrigins (a .state) (hearers (writeReply w)))) (sym (c .before .enum-told .given .1))
+    ∙ ap (lines-of (a .state)) (sym (c .before .enum-told .given .1))
     ∙ lines-by (a .hub) (a .state) (a .address) (r .who-hears-write .ensures)
 
 returns-2 : tie.Need-returns-2
@@ -50,7 +57,7 @@ returns-2 c =
     let r = c .before .before .before in
     let a = r .before .args in
     no-device (a .state) (c .no-lines2 .ensures)
-    ∙ ap (λ (w : WriteAnswer). risingLines (devicesOrigins (a .state) (hearers (writeReply w)))) (sym (c .before .enum-told2 .given .1))
+    ∙ ap (lines-of (a .state)) (sym (c .before .enum-told2 .given .1))
     ∙ lines-by (a .hub) (a .state) (a .address) (r .who-hears-write .ensures)
 
 returns-3 : tie.Need-returns-3
@@ -58,7 +65,7 @@ returns-3 c =
     let r = c .before .before .before in
     let a = r .before .args in
     no-device (a .state) (c .no-lines3 .ensures)
-    ∙ ap (λ (w : WriteAnswer). risingLines (devicesOrigins (a .state) (hearers (writeReply w)))) (sym (c .before .enum-told3 .given .1))
+    ∙ ap (lines-of (a .state)) (sym (c .before .enum-told3 .given .1))
     ∙ lines-by (a .hub) (a .state) (a .address) (r .who-hears-write .ensures)
 
 returns-4 : tie.Need-returns-4
@@ -67,7 +74,7 @@ returns-4 c =
     let r = c .before .before .before .before in
     let a = r .before .args in
     c .lines-of-devices .ensures
-    ∙ ap (λ (w : WriteAnswer). risingLines (devicesOrigins (a .state) (hearers (writeReply w)))) (sym (g .1))
+    ∙ ap (lines-of (a .state)) (sym (g .1))
     ∙ lines-by (a .hub) (a .state) (a .address) (r .who-hears-write .ensures)
 
 pub address-lines-spec : {M : Type 1} → statement M

@@ -1,7 +1,6 @@
 -- `endstate::addresses::aliases_of_devices` meets its contract, by the number of devices.
 -- Assumes nothing.
 use mathlib.Core.List.{[], _∷_}
-use native.Mathlib.Omega.{arith}
 use Rattle.endstate.proofs.AddressLaws.{no-alias, one-alias}
 use borrow.Author.Needs.{needs}
 use Rattle.endstate.proofs.addresses.aliases_of_devices.Statement.{statement}
@@ -58,7 +57,7 @@ returns c =
     let n = c .before .before .before .before in
     let s = n .before .args .state in
     let e0 = no-alias s (n .nothing .ensures) in
-    rw (g .1) (one-alias s (g .0 .0) ([]) (omega arith) e0 (c .with-alias .ensures))
+    rw (g .1) (one-alias s (g .0 .0) ([]) e0 (c .with-alias .ensures))
 
 returns-2 : tie.Need-returns-2
 returns-2 c =
@@ -66,8 +65,8 @@ returns-2 c =
     let n = c .before .before .before .before .before in
     let s = n .before .args .state in
     let e0 = no-alias s (n .nothing .ensures) in
-    let e1 = one-alias s (g .0 .1 .0) ([]) (omega arith) e0 (c .before .with-alias2 .ensures) in
-    rw (g .1) (one-alias s (g .0 .0) (g .0 .1 .0 ∷ []) (omega arith) e1 (c .with-alias3 .ensures))
+    let e1 = one-alias s (g .0 .1 .0) ([]) e0 (c .before .with-alias2 .ensures) in
+    rw (g .1) (one-alias s (g .0 .0) (g .0 .1 .0 ∷ []) e1 (c .with-alias3 .ensures))
 
 returns-3 : tie.Need-returns-3
 returns-3 c =
@@ -75,9 +74,9 @@ returns-3 c =
     let n = c .before .before .before .before .before .before in
     let s = n .before .args .state in
     let e0 = no-alias s (n .nothing .ensures) in
-    let e1 = one-alias s (g .0 .1 .1 .0) ([]) (omega arith) e0 (c .before .before .with-alias4 .ensures) in
-    let e2 = one-alias s (g .0 .1 .0) (g .0 .1 .1 .0 ∷ []) (omega arith) e1 (c .before .with-alias5 .ensures) in
-    rw (g .1) (one-alias s (g .0 .0) (g .0 .1 .0 ∷ g .0 .1 .1 .0 ∷ []) (omega arith) e2 (c .with-alias6 .ensures))
+    let e1 = one-alias s (g .0 .1 .1 .0) ([]) e0 (c .before .before .with-alias4 .ensures) in
+    let e2 = one-alias s (g .0 .1 .0) (g .0 .1 .1 .0 ∷ []) e1 (c .before .with-alias5 .ensures) in
+    rw (g .1) (one-alias s (g .0 .0) (g .0 .1 .0 ∷ g .0 .1 .1 .0 ∷ []) e2 (c .with-alias6 .ensures))
 
 returns-4 : tie.Need-returns-4
 returns-4 c =
@@ -85,10 +84,10 @@ returns-4 c =
     let n = c .before .before .before .before .before .before .before in
     let s = n .before .args .state in
     let e0 = no-alias s (n .nothing .ensures) in
-    let e1 = one-alias s (g .0 .1 .1 .1 .0) ([]) (omega arith) e0 (c .before .before .before .with-alias7 .ensures) in
-    let e2 = one-alias s (g .0 .1 .1 .0) (g .0 .1 .1 .1 .0 ∷ []) (omega arith) e1 (c .before .before .with-alias8 .ensures) in
-    let e3 = one-alias s (g .0 .1 .0) (g .0 .1 .1 .0 ∷ g .0 .1 .1 .1 .0 ∷ []) (omega arith) e2 (c .before .with-alias9 .ensures) in
-    rw (g .1) (one-alias s (g .0 .0) (g .0 .1 .0 ∷ g .0 .1 .1 .0 ∷ g .0 .1 .1 .1 .0 ∷ []) (omega arith) e3 (c .with-alias10 .ensures))
+    let e1 = one-alias s (g .0 .1 .1 .1 .0) ([]) e0 (c .before .before .before .with-alias7 .ensures) in
+    let e2 = one-alias s (g .0 .1 .1 .0) (g .0 .1 .1 .1 .0 ∷ []) e1 (c .before .before .with-alias8 .ensures) in
+    let e3 = one-alias s (g .0 .1 .0) (g .0 .1 .1 .0 ∷ g .0 .1 .1 .1 .0 ∷ []) e2 (c .before .with-alias9 .ensures) in
+    rw (g .1) (one-alias s (g .0 .0) (g .0 .1 .0 ∷ g .0 .1 .1 .0 ∷ g .0 .1 .1 .1 .0 ∷ []) e3 (c .with-alias10 .ensures))
 
 pub aliases-of-devices-spec : {M : Type 1} → statement M
 aliases-of-devices-spec =

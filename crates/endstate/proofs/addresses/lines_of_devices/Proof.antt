@@ -2,10 +2,10 @@
 -- Assumes nothing.
 use mathlib.Core.Path.{sym, ap, _∙_}
 use mathlib.Core.List.{[], _∷_}
-use native.Mathlib.Omega.{arith}
 use Rattle.translation.specs.declared.Devices.{Devices}
 use Rattle.translation.specs.Translation.{devicesOf}
 use Rattle.endstate.specs.RisingLines.{risingLines}
+use Rattle.endstate.specs.LineRows.{linesRow}
 use Rattle.endstate.specs.Addresses.{devicesOrigins}
 use Rattle.endstate.proofs.AddressLaws.{no-device, one-device}
 use borrow.Author.Needs.{needs}
@@ -63,8 +63,8 @@ returns c =
     let n = c .before .before .before .before in
     let s = n .before .args .state in
     let e0 = no-device s (n .no-lines .ensures) in
-    one-device s (g .0 .0) ([]) (omega arith) e0 (c .with-device .ensures)
-    ∙ sym (ap (λ (d : Devices). risingLines (devicesOrigins s (devicesOf d))) (g .1))
+    one-device s (g .0 .0) ([]) e0 (c .with-device .ensures)
+    ∙ sym (ap (λ (d : Devices). linesRow (risingLines (devicesOrigins s (devicesOf d)))) (g .1))
 
 returns-2 : tie.Need-returns-2
 returns-2 c =
@@ -72,9 +72,9 @@ returns-2 c =
     let n = c .before .before .before .before .before in
     let s = n .before .args .state in
     let e0 = no-device s (n .no-lines .ensures) in
-    let e1 = one-device s (g .0 .1 .0) ([]) (omega arith) e0 (c .before .with-device2 .ensures) in
-    one-device s (g .0 .0) (g .0 .1 .0 ∷ []) (omega arith) e1 (c .with-device3 .ensures)
-    ∙ sym (ap (λ (d : Devices). risingLines (devicesOrigins s (devicesOf d))) (g .1))
+    let e1 = one-device s (g .0 .1 .0) ([]) e0 (c .before .with-device2 .ensures) in
+    one-device s (g .0 .0) (g .0 .1 .0 ∷ []) e1 (c .with-device3 .ensures)
+    ∙ sym (ap (λ (d : Devices). linesRow (risingLines (devicesOrigins s (devicesOf d)))) (g .1))
 
 returns-3 : tie.Need-returns-3
 returns-3 c =
@@ -82,10 +82,10 @@ returns-3 c =
     let n = c .before .before .before .before .before .before in
     let s = n .before .args .state in
     let e0 = no-device s (n .no-lines .ensures) in
-    let e1 = one-device s (g .0 .1 .1 .0) ([]) (omega arith) e0 (c .before .before .with-device4 .ensures) in
-    let e2 = one-device s (g .0 .1 .0) (g .0 .1 .1 .0 ∷ []) (omega arith) e1 (c .before .with-device5 .ensures) in
-    one-device s (g .0 .0) (g .0 .1 .0 ∷ g .0 .1 .1 .0 ∷ []) (omega arith) e2 (c .with-device6 .ensures)
-    ∙ sym (ap (λ (d : Devices). risingLines (devicesOrigins s (devicesOf d))) (g .1))
+    let e1 = one-device s (g .0 .1 .1 .0) ([]) e0 (c .before .before .with-device4 .ensures) in
+    let e2 = one-device s (g .0 .1 .0) (g .0 .1 .1 .0 ∷ []) e1 (c .before .with-device5 .ensures) in
+    one-device s (g .0 .0) (g .0 .1 .0 ∷ g .0 .1 .1 .0 ∷ []) e2 (c .with-device6 .ensures)
+    ∙ sym (ap (λ (d : Devices). linesRow (risingLines (devicesOrigins s (devicesOf d)))) (g .1))
 
 returns-4 : tie.Need-returns-4
 returns-4 c =
@@ -93,11 +93,11 @@ returns-4 c =
     let n = c .before .before .before .before .before .before .before in
     let s = n .before .args .state in
     let e0 = no-device s (n .no-lines .ensures) in
-    let e1 = one-device s (g .0 .1 .1 .1 .0) ([]) (omega arith) e0 (c .before .before .before .with-device7 .ensures) in
-    let e2 = one-device s (g .0 .1 .1 .0) (g .0 .1 .1 .1 .0 ∷ []) (omega arith) e1 (c .before .before .with-device8 .ensures) in
-    let e3 = one-device s (g .0 .1 .0) (g .0 .1 .1 .0 ∷ g .0 .1 .1 .1 .0 ∷ []) (omega arith) e2 (c .before .with-device9 .ensures) in
-    one-device s (g .0 .0) (g .0 .1 .0 ∷ g .0 .1 .1 .0 ∷ g .0 .1 .1 .1 .0 ∷ []) (omega arith) e3 (c .with-device10 .ensures)
-    ∙ sym (ap (λ (d : Devices). risingLines (devicesOrigins s (devicesOf d))) (g .1))
+    let e1 = one-device s (g .0 .1 .1 .1 .0) ([]) e0 (c .before .before .before .with-device7 .ensures) in
+    let e2 = one-device s (g .0 .1 .1 .0) (g .0 .1 .1 .1 .0 ∷ []) e1 (c .before .before .with-device8 .ensures) in
+    let e3 = one-device s (g .0 .1 .0) (g .0 .1 .1 .0 ∷ g .0 .1 .1 .1 .0 ∷ []) e2 (c .before .with-device9 .ensures) in
+    one-device s (g .0 .0) (g .0 .1 .0 ∷ g .0 .1 .1 .0 ∷ g .0 .1 .1 .1 .0 ∷ []) e3 (c .with-device10 .ensures)
+    ∙ sym (ap (λ (d : Devices). linesRow (risingLines (devicesOrigins s (devicesOf d)))) (g .1))
 
 pub lines-of-devices-spec : {M : Type 1} → statement M
 lines-of-devices-spec =

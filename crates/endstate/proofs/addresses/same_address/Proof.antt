@@ -5,8 +5,8 @@ use borrow.Author.Needs.{needs}
 use Rattle.endstate.proofs.addresses.same_address.Statement.{statement}
 use Rattle.endstate.proofs.addresses.same_address.Tie as tie
 
-ports-reached-requires : tie.Need-ports-reached-requires
-ports-reached-requires c κs = search needs
+ports-of-address-requires : tie.Need-ports-of-address-requires
+ports-of-address-requires c κs = search needs
 
 aliases-that-match-requires : tie.Need-aliases-that-match-requires
 aliases-that-match-requires c κs = search needs
@@ -18,10 +18,10 @@ returns : tie.Need-returns
 returns c =
     let p = c .before .before in
     let a = p .before .args in
-    address-by (a .hub) (a .state) (a .address) (p .ports-reached .ensures) (c .before .aliases-that-match .ensures)
+    address-by (a .hub) (a .state) (a .address) (p .ports-of-address .ensures) (c .before .aliases-that-match .ensures)
     (c .shared-by .ensures)
 
 pub same-address-spec : {M : Type 1} → statement M
 same-address-spec =
     tie.close
-    (tie.spec ports-reached-requires aliases-that-match-requires shared-by-requires returns)
+    (tie.spec ports-of-address-requires aliases-that-match-requires shared-by-requires returns)

@@ -17,6 +17,9 @@ alias-origin-requires c κs = search needs
 with-line-requires-2 : tie.Need-with-line-requires-2
 with-line-requires-2 c κs = search needs
 
+cast-port-origin : tie.Need-cast-port-origin
+cast-port-origin c = search needs
+
 port-origin-requires : tie.Need-port-origin-requires
 port-origin-requires c κs = search needs
 
@@ -25,11 +28,11 @@ with-line-requires-3 c κs = search needs
 
 returns : tie.Need-returns
 returns c =
-    λ numbers h e.
+    λ numbers e.
     let remote = c .before .before .before .before in
     let alias = c .before .before in
     let a = remote .before .before .args in
-    device-more (a .state) (a .device) numbers h e (remote .before .remote-origin .ensures) (remote .with-line .ensures)
+    device-more (a .state) (a .device) numbers e (remote .before .remote-origin .ensures) (remote .with-line .ensures)
     (alias .before .alias-origin .ensures) (alias .with-line2 .ensures) (c .before .port-origin .ensures)
     (c .with-line3 .ensures)
 
@@ -41,6 +44,7 @@ with-device-spec =
     with-line-requires
     alias-origin-requires
     with-line-requires-2
+    cast-port-origin
     port-origin-requires
     with-line-requires-3
     returns)

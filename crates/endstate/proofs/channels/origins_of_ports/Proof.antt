@@ -3,7 +3,6 @@
 use Rattle.laws.specs.Bits.{bit}
 use Rattle.origins.specs.Origins.{portRegister}
 use Rattle.origins.specs.KeptOrigins.{keptNumber}
-use Rattle.endstate.proofs.OneLine.{gathers-none}
 use Rattle.endstate.proofs.ChannelLaws.{four-ports}
 use borrow.Author.Needs.{needs}
 use Rattle.endstate.proofs.channels.origins_of_ports.Statement.{statement}
@@ -29,8 +28,8 @@ returns c =
     let n = c .before .before .before .before in
     let a = n .before .args in
     four-ports (λ port. bit port (a .mask)) (λ port. keptNumber (a .state) (portRegister port (a .offset)))
-    (gathers-none (n .nothing .ensures)) (c .before .before .before .with-port .ensures) (c .before .before .with-port2 .ensures)
-    (c .before .with-port3 .ensures) (c .with-port4 .ensures)
+    (n .nothing .ensures) (c .before .before .before .with-port .ensures)
+    (c .before .before .with-port2 .ensures) (c .before .with-port3 .ensures) (c .with-port4 .ensures)
 
 pub origins-of-ports-spec : {M : Type 1} → statement M
 origins-of-ports-spec =

@@ -2,7 +2,7 @@
 -- Assumes nothing.
 use mathlib.Core.Path.{sym, _∙_}
 use borrow.Author.Tests.{not-true, not-false}
-use Rattle.endstate.proofs.FindingLaws.{shared-none, shared-some}
+use Rattle.endstate.proofs.GatheringLaws.{clash-none, clash-some}
 use borrow.Author.Needs.{needs}
 use Rattle.endstate.proofs.grading.shared_by.Statement.{statement}
 use Rattle.endstate.proofs.grading.shared_by.Tie as tie
@@ -15,19 +15,17 @@ no-lines-requires c κs = search needs
 
 returns : tie.Need-returns
 returns c =
-    λ numbers g.
     let s = c .before .before in
-    shared-none _ numbers _ (sym (s .are-several .ensures) ∙ not-true _ (c .before .if1 .taken)) (c .no-lines .ensures)
+    clash-none _ _ _ (sym (s .are-several .ensures) ∙ not-true _ (c .before .if1 .taken)) (c .no-lines .ensures)
 
 grade-by-requires : tie.Need-grade-by-requires
 grade-by-requires c κs = search needs
 
 returns-2 : tie.Need-returns-2
 returns-2 c =
-    λ numbers g.
     let s = c .before .before .before in
-    shared-some _ numbers _ (sym (s .are-several .ensures) ∙ not-false _ (c .before .before .if1 .left))
-    (c .before .grade-by .ensures numbers g) (g .lines)
+    clash-some _ _ _ (sym (s .are-several .ensures) ∙ not-false _ (c .before .before .if1 .left))
+    (c .before .grade-by .ensures)
 
 pub shared-by-spec : {M : Type 1} → statement M
 shared-by-spec =

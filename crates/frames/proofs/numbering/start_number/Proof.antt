@@ -19,8 +19,8 @@ port-frames-requires c κs = search needs
 number-of-requires : tie.Need-number-of-requires
 number-of-requires c κs = search needs
 
-next-number-requires : tie.Need-next-number-requires
-next-number-requires c κs = search needs
+next-frame-number-requires : tie.Need-next-frame-number-requires
+next-frame-number-requires c κs = search needs
 
 returns : tie.Need-returns
 returns c = cc
@@ -34,5 +34,5 @@ start-number-spec =
     high-low-requires
     port-frames-requires
     number-of-requires
-    next-number-requires
+    next-frame-number-requires
     returns)

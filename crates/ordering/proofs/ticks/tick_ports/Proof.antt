@@ -1,6 +1,6 @@
 -- `ordering::ticks::tick_ports` meets its contract.
 -- Assumes nothing.
-use Rattle.ordering.specs.Ticks.{tickedPorts}
+use Rattle.ordering.specs.Ticks.{withTicks}
 use borrow.Author.Needs.{needs}
 use Rattle.ordering.proofs.ticks.tick_ports.Statement.{statement}
 use Rattle.ordering.proofs.ticks.tick_ports.Tie as tie
@@ -18,7 +18,7 @@ tick-port-requires-4 : tie.Need-tick-port-requires-4
 tick-port-requires-4 c κs = search needs
 
 returns : tie.Need-returns
-unfolding tickedPorts
+unfolding withTicks
 returns c =
     let t = c .before in
     rw (

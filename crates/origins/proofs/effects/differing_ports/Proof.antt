@@ -17,14 +17,14 @@ port-differs-requires-3 c κs = search needs
 port-differs-requires-4 : tie.Need-port-differs-requires-4
 port-differs-requires-4 c κs = search needs
 
-mask-of-requires : tie.Need-mask-of-requires
-mask-of-requires c κs = search needs
+mask-of-four-requires : tie.Need-mask-of-four-requires
+mask-of-four-requires c κs = search needs
 
 returns : tie.Need-returns
 returns c =
     let d = c .before in
     mask-by _ (d .before .before .before .port-differs .ensures) (d .before .before .port-differs2 .ensures)
-    (d .before .port-differs3 .ensures) (d .port-differs4 .ensures) (c .mask-of .ensures)
+    (d .before .port-differs3 .ensures) (d .port-differs4 .ensures) (c .mask-of-four .ensures)
 
 pub differing-ports-spec : {M : Type 1} → statement M
 differing-ports-spec =
@@ -34,5 +34,5 @@ differing-ports-spec =
     port-differs-requires-2
     port-differs-requires-3
     port-differs-requires-4
-    mask-of-requires
+    mask-of-four-requires
     returns)

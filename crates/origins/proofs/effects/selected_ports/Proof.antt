@@ -17,14 +17,14 @@ is-set-requires-3 c κs = search needs
 is-set-requires-4 : tie.Need-is-set-requires-4
 is-set-requires-4 c κs = search needs
 
-mask-of-requires : tie.Need-mask-of-requires
-mask-of-requires c κs = search needs
+mask-of-four-requires : tie.Need-mask-of-four-requires
+mask-of-four-requires c κs = search needs
 
 returns : tie.Need-returns
 returns c =
     let d = c .before in
     mask-by _ (d .before .before .before .is-set .ensures) (d .before .before .is-set2 .ensures)
-    (d .before .is-set3 .ensures) (d .is-set4 .ensures) (c .mask-of .ensures)
+    (d .before .is-set3 .ensures) (d .is-set4 .ensures) (c .mask-of-four .ensures)
 
 pub selected-ports-spec : {M : Type 1} → statement M
 selected-ports-spec =
@@ -34,5 +34,5 @@ selected-ports-spec =
     is-set-requires-2
     is-set-requires-3
     is-set-requires-4
-    mask-of-requires
+    mask-of-four-requires
     returns)

@@ -7,12 +7,12 @@ use Rattle.tracetext.specs.TextWindows.{mayListNext}
 use Rattle.tracetext.proofs.record.may_list.Statement.{statement}
 use Rattle.tracetext.proofs.record.may_list.Tie as tie
 
-is-refusal-requires : tie.Need-is-refusal-requires
-is-refusal-requires c κs = search needs
+is-text-refusal-requires : tie.Need-is-text-refusal-requires
+is-text-refusal-requires c κs = search needs
 
 returns : tie.Need-returns
 unfolding mayListNext
-returns c = rw (sym (c .before .is-refusal .ensures) ∙ c .if1 .taken)
+returns c = rw (sym (c .before .is-text-refusal .ensures) ∙ c .if1 .taken)
 
 has-room-requires : tie.Need-has-room-requires
 has-room-requires c κs = search needs
@@ -22,14 +22,14 @@ unfolding mayListNext
 returns-2 c =
     let room = c .before in
     let on = room .before in
-    rw (sym (on .before .is-refusal .ensures) ∙ on .if1 .left, sym (room .has-room .ensures) ∙ not-true _ (c .if2 .taken))
+    rw (sym (on .before .is-text-refusal .ensures) ∙ on .if1 .left, sym (room .has-room .ensures) ∙ not-true _ (c .if2 .taken))
 
 returns-3 : tie.Need-returns-3
 unfolding mayListNext
 returns-3 c =
     let room = c .before .before in
     let on = room .before in
-    rw (sym (on .before .is-refusal .ensures) ∙ on .if1 .left, sym (room .has-room .ensures) ∙ not-false _ (c .before .if2 .left), c .if3 .taken)
+    rw (sym (on .before .is-text-refusal .ensures) ∙ on .if1 .left, sym (room .has-room .ensures) ∙ not-false _ (c .before .if2 .left), c .if3 .taken)
 
 holds-record-requires : tie.Need-holds-record-requires
 holds-record-requires c κs = search needs
@@ -39,14 +39,14 @@ unfolding mayListNext
 returns-4 c =
     let room = c .before .before .before in
     let on = room .before in
-    rw (sym (on .before .is-refusal .ensures) ∙ on .if1 .left, sym (room .has-room .ensures) ∙ not-false _ (c .before .before .if2 .left), c .before .if3 .left)
+    rw (sym (on .before .is-text-refusal .ensures) ∙ on .if1 .left, sym (room .has-room .ensures) ∙ not-false _ (c .before .before .if2 .left), c .before .if3 .left)
     (c .holds-record .ensures)
 
 pub may-list-spec : {M : Type 1} → statement M
 may-list-spec =
     tie.close
     (tie.spec
-    is-refusal-requires
+    is-text-refusal-requires
     returns
     has-room-requires
     returns-2

@@ -1,0 +1,2 @@
+pub mod ExplainedLaws
+pub mod Examples
