@@ -15,7 +15,7 @@ use std::process::ExitCode;
 
 const USAGE: &str = "use: independent play FILE | cases | samples FOLDER | \
 convert trace ADDRESS SCRIPT OUT PART | convert text TRACE | \
-show [--json] ADDRESS SCRIPT | show [--json] TRACE | check [--json] ADDRESS SCRIPT | \
+show [--json] ADDRESS SCRIPT | show [--json] TRACE | check [--json] ADDRESS SCRIPT | check [--json] TRACE | \
 compare PLAYER [--seed S] [--count N] [--keep DIR] [--tally] | \
 compare-scripts CONVERT [--seed S] [--count N] [--keep DIR] [--tally] | \
 compare-answers SHOW [--seed S] [--count N] [--keep DIR] [--tally] | \

@@ -1,10 +1,9 @@
 //! Whole answers: the samples, the data sheet's scripts, and who hears an address.
 
-mod common_json;
 mod facts;
 
-use common_json::is_json;
 use facts::of_kind;
+use independent::compare::json::is_json;
 use independent::facts::answer::Answer;
 use independent::facts::object::object;
 use independent::generate::samples::SCRIPTS;
@@ -117,7 +116,7 @@ fn none_of_the_data_sheets_scripts_is_called_wrong() {
                 object(&answer)
             );
             assert!(answer.any_order, "{name}");
-            assert!(is_json(&object(&answer)), "{name}");
+            assert!(is_json(object(&answer).as_bytes()), "{name}");
         }
     }
 }

@@ -1,9 +1,8 @@
 //! Laws that hold of every script and trace, tried on generated ones.
 
-mod common_json;
 mod facts;
 
-use common_json::is_json;
+use independent::compare::json::is_json;
 use independent::facts::answer::Answer;
 use independent::facts::findings::finding::About;
 use independent::facts::given::{of_script, of_trace, Given, Write};
@@ -140,7 +139,7 @@ fn findings_stand_in_their_order_each_once_and_lists_rise() {
         }
         assert!(answer.addresses.iter().all(|it| rises(&it.lines)));
         let text = object(&answer);
-        assert!(is_json(&text) && !text.contains('\n'), "{text}");
+        assert!(is_json(text.as_bytes()) && !text.contains('\n'), "{text}");
     }
 }
 

@@ -132,7 +132,10 @@ fn wrong_streams_are_found() {
         "answer-silent",
         "shift; exec OWN show --json \"$@\" 2>/dev/null",
     );
-    assert_eq!(what, "its standard error is not one line: missing");
+    assert!(
+        what.contains("standard error") && what.ends_with("missing"),
+        "{what}"
+    );
     let any_status_of_a_refusal = "shift; OWN show --json \"$@\" || exit 0";
     assert_eq!(of("answer-refused", any_status_of_a_refusal), "nothing");
 }

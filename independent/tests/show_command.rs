@@ -31,21 +31,23 @@ fn both_commands_print_the_same_object() {
     let trace = call(&["show", "--json", "samples/wrong_page.trace"]);
     assert!(trace.0.contains("\"lines\":[7,12]"));
     assert_eq!((trace.1, trace.2), (false, 0));
+    let checked = call(&["check", "samples/wrong_page.trace"]);
+    assert_eq!((checked.0, checked.1, checked.2), (trace.0, false, 1));
 }
 
 #[test]
-fn a_refusal_is_one_line_and_status_1() {
+fn a_refusal_is_status_1_of_show_and_2_of_check() {
     let trace = "samples/weighbridge.trace";
-    for command in ["show", "check"] {
+    for (command, status) in [("show", 1), ("check", 2)] {
         let refused = call(&[command, "--json", "3D", trace]);
-        assert_eq!(refused, ("1 ! 14\n".into(), true, 1));
+        assert_eq!(refused, ("1 ! 14\n".into(), true, status));
         let refused = call(&[command, "--json", "78", "samples/weighbridge.script"]);
-        assert_eq!(refused, ("! 2\n".into(), true, 1));
+        assert_eq!(refused, ("! 2\n".into(), true, status));
+        let refused = call(&[command, "--json", "samples/weighbridge.script"]);
+        assert_eq!(refused, ("1 ! 13\n".into(), true, status));
+        let refused = call(&[command, "/dev/null"]);
+        assert_eq!(refused, ("! 13\n".into(), true, status));
     }
-    let refused = call(&["show", "--json", "samples/weighbridge.script"]);
-    assert_eq!(refused, ("1 ! 13\n".into(), true, 1));
-    let refused = call(&["show", "/dev/null"]);
-    assert_eq!(refused, ("! 13\n".into(), true, 1));
 }
 
 #[test]
@@ -53,7 +55,6 @@ fn a_wrong_call_is_status_2_and_a_missing_file_1() {
     for arguments in [
         &["show"][..],
         &["show", "--json"],
-        &["check", "samples/weighbridge.trace"],
         &["show", "3", "samples/weighbridge.script"],
         &["show", "3D", "samples/weighbridge.script", "more"],
     ] {

@@ -20,7 +20,7 @@ pub fn trace(address: &OsString, script: &Path, out: &Path) -> Result<(), Failur
             fs::write(out, trace).map_err(|error| cannot_write(out, error))
         }
         Err(refused) if refused.line.is_some() => {
-            print_refusal(&named(&refused_lines(&text)), refused)
+            print_refusal(&named("trace", &refused_lines(&text)), refused)
         }
         Err(refused) => print_refusal(&["the address is refused".into()], refused),
     }

@@ -1,7 +1,6 @@
 //! Whether a text is one JSON value: a small reader of its own, by RFC 8259, for ASCII.
 
-pub fn is_json(text: &str) -> bool {
-    let text = text.as_bytes();
+pub fn is_json(text: &[u8]) -> bool {
     value(text).is_some_and(|rest| blanks(rest).is_empty())
 }
 

@@ -6,6 +6,7 @@ pub mod cases;
 pub mod comparison;
 pub mod coverage;
 pub mod difference;
+pub mod json;
 pub mod players;
 pub mod run;
 pub mod scripts;

@@ -1,6 +1,6 @@
-//! The facts behind `show` and `check`, written anew from the text that asks for them (issue 20) and
-//! from document 01, over the model. The sentences are quoted where they are followed; where they
-//! leave something open, docs/SHOW.md has the decision. Best read in this order.
+//! The facts behind `show` and `check`, written anew from the text that asks for them and from
+//! document 01, over the model. The sentences are quoted where they are followed; where they leave
+//! something open, docs/SHOW.md has the decision. Best read in this order.
 
 // What is run: the hub, and the writes with their numbers.
 pub mod given;

@@ -10,11 +10,13 @@ mod write_points;
 use super::comparison::{Comparison, Findings, Settings};
 use super::coverage::Coverage;
 use super::difference::{what_is_wrong, what_is_wrong_in_text, Difference, ExpectedStderr, Files};
+use super::json::is_json;
 use super::run::{with_context, Program, Run};
+use super::scripts::named;
 use crate::facts::answer::Answer;
 use crate::facts::object::object;
 use crate::generate::answers::{numbered, Job};
-use crate::model::convert::Refused;
+use crate::model::convert::{refused_lines, Refused};
 use points::POINTS;
 use std::fs;
 use std::io;
@@ -50,8 +52,9 @@ fn compare_one(settings: &Settings, folder: &Path, number: u64) -> io::Result<Fi
     let run = run_program(settings, folder, &case.job, expected.len() as u64)?;
     // The exit status of a refusal is the front door's to give.
     let wrong = match answer {
-        Ok(_) => what_is_wrong(&run, &expected, &ExpectedStderr::Nothing),
-        Err(_) => what_is_wrong_in_text(&run, &expected, &ExpectedStderr::OneLine),
+        Ok(_) => what_is_wrong(&run, &expected, &ExpectedStderr::Nothing)
+            .or_else(|| (!is_json(&run.stdout)).then(|| "the object is not JSON".into())),
+        Err(refused) => what_is_wrong_in_text(&run, &expected, &words(&case.job, refused)),
     };
     found.difference = wrong.map(|what| {
         let mut files = input_files(case.job);
@@ -73,6 +76,16 @@ fn answer(job: &Job) -> Result<Answer, Refused> {
     match job {
         Job::Script { address, text } => Answer::of_script(*address, text),
         Job::Trace { trace } => Answer::of_trace(trace),
+    }
+}
+
+/// What stands on standard error where the job is refused.
+fn words(job: &Job, refused: Refused) -> ExpectedStderr {
+    match job {
+        Job::Script { text, .. } if refused.line.is_some() => {
+            ExpectedStderr::Lines(named("show", &refused_lines(text)))
+        }
+        _ => ExpectedStderr::OneLine,
     }
 }
 

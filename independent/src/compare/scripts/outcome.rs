@@ -46,7 +46,7 @@ impl Outcome {
             }
             (Outcome::Taken(_), _) => ExpectedStderr::Nothing,
             (Outcome::Refused(Refused { line: Some(_), .. }), Job::Trace { text, .. }) => {
-                ExpectedStderr::Lines(named(&refused_lines(text)))
+                ExpectedStderr::Lines(named("trace", &refused_lines(text)))
             }
             (Outcome::Refused(_), _) => ExpectedStderr::OneLine,
         }
@@ -61,15 +61,15 @@ impl Outcome {
     }
 }
 
-/// How the words for refused lines begin.
-pub fn named(lines: &[u64]) -> Vec<String> {
+/// How the command's words for refused lines begin.
+pub fn named(command: &str, lines: &[u64]) -> Vec<String> {
     let (first, behind) = lines.split_at(lines.len().min(MOST_NAMED));
-    let name = |line| format!("loopcinder trace: line {line} ");
+    let name = |line| format!("loopcinder {command}: line {line} ");
     let mut words: Vec<String> = first.iter().map(name).collect();
     if !behind.is_empty() {
         let count = behind.len();
         words.push(format!(
-            "loopcinder trace: refused lines besides these: {count}\n"
+            "loopcinder {command}: refused lines besides these: {count}\n"
         ));
     }
     words
