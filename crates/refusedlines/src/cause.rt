@@ -175,7 +175,7 @@ pub(crate) fn say(cause: Cause) {
         Cause::NotTold => words(b" is neither blank nor one call such as WriteI2C(0x4c,0x0f): "),
         Cause::NoText => words(b" is no text; save the script as plain text, in UTF-8 or ASCII: "),
         Cause::Trace => words(
-            b" begins as a trace does; a trace is played with ./loopcinder play: ",
+            b" begins as a trace does; show and play take a trace, without an address: ",
         ),
         Cause::NoLineFeed => words(b" has no line feed at its end; press Enter after it: "),
         Cause::ByteOrderMark => words(

@@ -1,0 +1,69 @@
+// What was run: the file and the hub, and how many writes there were.
+use page::Pen;
+use page::shown;
+
+// How many register writes there were; of how many the register is not followed; and how many went to a per-port
+// register while no port was selected.
+pub struct WriteCounts {
+    pub writes: u64,
+    pub not_followed: u64,
+    pub no_port: u64,
+}
+
+// Whether no write reached a register.
+pub(crate) fn sets_nothing(counts: WriteCounts) -> bool {
+    if counts.writes < counts.not_followed {
+        return true;
+    }
+    counts.writes - counts.not_followed <= counts.no_port
+}
+
+// The file's name; standard input for -.
+fn name(pen: Pen, path: &[u8]) -> Pen {
+    if check::same(path, b"-") {
+        return page::text(pen, b"standard input");
+    }
+    shown::bytes(pen, path)
+}
+
+// The file, and the hub's own address.
+pub fn file_on_hub(pen: Pen, path: &[u8], address: u8) -> Pen {
+    let named = name(pen, path);
+    page::line_end(page::hexed(named, b" on hub ", address))
+}
+
+fn not_followed(pen: Pen, count: u64) -> Pen {
+    if count == 0 {
+        return pen;
+    }
+    page::text(
+        page::numbered(pen, b", ", count),
+        b" not followed by this model",
+    )
+}
+
+fn no_port(pen: Pen, count: u64) -> Pen {
+    if count == 0 {
+        return pen;
+    }
+    page::text(page::numbered(pen, b", ", count), b" with no port selected")
+}
+
+// How many writes there were, and how many of them did nothing.
+pub fn writes(pen: Pen, counts: WriteCounts) -> Pen {
+    if counts.writes == 0 {
+        return page::line(pen, b"no register write: the hub is as it starts");
+    }
+    let counted = words::counted(pen, counts.writes, b" register write", b" register writes");
+    if sets_nothing(counts) {
+        return page::line(
+            counted,
+            b", and none of them sets a register: the hub is as it starts",
+        );
+    }
+    if counts.not_followed == 0 && counts.no_port == 0 {
+        return page::line(counted, b", all followed");
+    }
+    let followed = not_followed(counted, counts.not_followed);
+    page::line_end(no_port(followed, counts.no_port))
+}

@@ -1,0 +1,158 @@
+// What is found at a write, of every kind.
+use crate::facts;
+use crate::told::Write;
+use clashes::addresses;
+use findings::WritesSoFar;
+use findings::by_effect;
+use findings::on_order;
+use findings::replaced;
+use findings::replaced::Replacement;
+use hub::Hub;
+use ordering::inside::Extent;
+use ordering::ticks::LastTick;
+use origins::effects::Effect;
+use registers::PageAccess;
+use registers::bits;
+use registers::map;
+use words::kinds::Kind;
+
+// The write; the ports whose register it reaches; for each port the origin of its register where that is replaced, the
+// earlier selection where the port is ticked again, what its register held before, and the address that a device of it
+// heard by a replaced alias, 0 for none; and whether there is a finding of each other kind.
+pub(crate) struct Found {
+    pub write: Write,
+    pub reached: u8,
+    pub replaced: [u64; 4],
+    pub earlier: [u64; 4],
+    pub old: [u8; 4],
+    pub lost: [u8; 4],
+    pub no_port: bool,
+    pub shared_in_block: bool,
+    pub not_followed: bool,
+    pub bits_ignored: bool,
+    pub no_change: bool,
+    pub odd_alias: bool,
+}
+
+// The origin of a port's register where it is replaced.
+fn replaced_on(known: WritesSoFar, effect: Effect, write: Write, port: u8) -> u64 {
+    if !by_effect::changes_port(effect, port) {
+        return 0;
+    }
+    match replaced::replaced(known, write.offset, write.value, port) {
+        Replacement::NotReplaced => 0,
+        Replacement::From(origin) => origin,
+    }
+}
+
+// The latest earlier selection of a port that is ticked again.
+fn earlier_of(known: WritesSoFar, write: Write, port: u8) -> u64 {
+    match on_order::port_twice(known, write.offset, write.value, port) {
+        LastTick::Never => 0,
+        LastTick::At(number) => number,
+    }
+}
+
+// What the register of a port holds before the write.
+fn old_on(known: WritesSoFar, offset: u8, port: u8) -> u8 {
+    let numbers = known.numbers;
+    registers::read(numbers.registers, PageAccess::Port(port), offset)
+}
+
+// The hub at a write.
+fn hub_at(known: WritesSoFar, address: u8) -> Hub {
+    let numbers = known.numbers;
+    facts::hub_with(address, numbers.registers)
+}
+
+// The address that a device of a port hears by an alias that is replaced.
+fn lost_on(known: WritesSoFar, address: u8, offset: u8, port: u8, origin: u64) -> u8 {
+    if origin == 0 {
+        return 0;
+    }
+    if !by_effect::is_alias_register(offset) {
+        return 0;
+    }
+    let heard = old_on(known, offset, port) / 2;
+    if addresses::address_reaches(hub_at(known, address), heard, port) {
+        return heard;
+    }
+    0
+}
+
+// What is found at the write that comes next, on a hub with that address.
+pub(crate) fn at(known: WritesSoFar, address: u8, whole: Extent, write: Write) -> Found {
+    let offset = write.offset;
+    let effect = by_effect::effect_now(known, offset, write.value);
+    let replaced = [
+        replaced_on(known, effect, write, 0),
+        replaced_on(known, effect, write, 1),
+        replaced_on(known, effect, write, 2),
+        replaced_on(known, effect, write, 3),
+    ];
+    Found {
+        write,
+        reached: by_effect::reached_by(effect),
+        replaced,
+        earlier: [
+            earlier_of(known, write, 0),
+            earlier_of(known, write, 1),
+            earlier_of(known, write, 2),
+            earlier_of(known, write, 3),
+        ],
+        old: [
+            old_on(known, offset, 0),
+            old_on(known, offset, 1),
+            old_on(known, offset, 2),
+            old_on(known, offset, 3),
+        ],
+        lost: [
+            lost_on(known, address, offset, 0, replaced[0]),
+            lost_on(known, address, offset, 1, replaced[1]),
+            lost_on(known, address, offset, 2, replaced[2]),
+            lost_on(known, address, offset, 3, replaced[3]),
+        ],
+        no_port: by_effect::is_no_port(effect),
+        shared_in_block: on_order::shared_in_block(known, whole, offset),
+        not_followed: by_effect::is_not_followed(effect),
+        bits_ignored: by_effect::ignores_by(effect),
+        no_change: by_effect::keeps_all_by(effect),
+        odd_alias: by_effect::odd_alias_by(effect, offset, write.value),
+    }
+}
+
+// Whether there is a finding of the kind, of the kinds that need no other number than the write's own.
+pub(crate) fn is_found(found: Found, kind: Kind) -> bool {
+    match kind {
+        Kind::NoPort => found.no_port,
+        Kind::SharedInBlock => found.shared_in_block,
+        Kind::NotFollowed => found.not_followed,
+        Kind::BitsIgnored => found.bits_ignored,
+        Kind::NoChange => found.no_change,
+        Kind::OddAlias => found.odd_alias,
+        _ => false,
+    }
+}
+
+pub(crate) fn is_selection(found: Found) -> bool {
+    found.write.offset as usize == map::FPD3_PORT_SEL
+}
+
+// Of a port: the origin of its register where it is replaced, 0 for none; what the register held before and holds after
+// the write; and the address that is lost, 0 for none.
+pub(crate) fn replaced_at(found: Found, port: u8) -> u64 {
+    found.replaced[(port % 4) as usize]
+}
+
+pub(crate) fn old_value(found: Found, port: u8) -> u8 {
+    found.old[(port % 4) as usize]
+}
+
+pub(crate) fn lost_address(found: Found, port: u8) -> u8 {
+    found.lost[(port % 4) as usize]
+}
+
+pub(crate) fn new_value(found: Found, port: u8) -> u8 {
+    let mask = map::write_mask(found.write.offset);
+    bits::masked_write(mask, old_value(found, port), found.write.value)
+}
