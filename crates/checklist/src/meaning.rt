@@ -14,12 +14,28 @@ fn register_by(pen: Pen, offset: u8, old: u8, new: u8) -> Pen {
     byte_by(named, b": ", old, new)
 }
 
-// An address, in bits 7 to 1; 0 of an alias is none.
+// An address, in bits 7 to 1.
 fn address_by(pen: Pen, words: &[u8], offset: u8, old: u8, new: u8) -> Pen {
     if old / 2 == new / 2 {
         return register_by(pen, offset, old, new);
     }
     byte_by(pen, words, old / 2, new / 2)
+}
+
+// The address of an alias; one of 0 is off.
+fn alias(pen: Pen, address: u8) -> Pen {
+    if address == 0 {
+        return page::text(pen, b"off");
+    }
+    page::hex(pen, address)
+}
+
+fn alias_by(pen: Pen, words: &[u8], offset: u8, old: u8, new: u8) -> Pen {
+    if old / 2 == new / 2 {
+        return register_by(pen, offset, old, new);
+    }
+    let first = alias(page::text(pen, words), old / 2);
+    alias(page::text(first, b" by "), new / 2)
 }
 
 // A virtual channel, in bits 7 and 6, or the data type, in the others.
@@ -47,9 +63,9 @@ pub(crate) fn replaced_by(pen: Pen, offset: u8, old: u8, new: u8) -> Pen {
     match offset {
         0x58 => pass_through_by(pen, offset, old, new),
         0x5B => address_by(pen, b"the serializer's own address ", offset, old, new),
-        0x5C => address_by(pen, b"the serializer's address ", offset, old, new),
+        0x5C => alias_by(pen, b"the serializer's address ", offset, old, new),
         0x5D..=0x64 => address_by(pen, b"a camera's own address ", offset, old, new),
-        0x65..=0x6C => address_by(pen, b"address ", offset, old, new),
+        0x65..=0x6C => alias_by(pen, b"address ", offset, old, new),
         0x70 => channel_by(pen, b"RAW10", old, new),
         0x71 => channel_by(pen, b"RAW12", old, new),
         _ => register_by(pen, offset, old, new),

@@ -13,8 +13,8 @@ pub fn heading(pen: Pen) -> Pen {
     page::line(page::line_end(pen), b"Notes")
 }
 
-// What the notes of a kind say.
-fn about(pen: Pen, kind: Kind, count: u64) -> Pen {
+// What the notes on the order say.
+fn about_order(pen: Pen, kind: Kind, count: u64) -> Pen {
     match kind {
         Kind::PortTwice => words::counted(
             pen,
@@ -28,6 +28,13 @@ fn about(pen: Pen, kind: Kind, count: u64) -> Pen {
             b" write to a shared register between the blocks",
             b" writes to shared registers between the blocks",
         ),
+        _ => pen,
+    }
+}
+
+// What the notes of a kind say.
+fn about(pen: Pen, kind: Kind, count: u64) -> Pen {
+    match kind {
         Kind::NotFollowed => words::counted(
             pen,
             count,
@@ -52,7 +59,7 @@ fn about(pen: Pen, kind: Kind, count: u64) -> Pen {
             b" alias with an odd value",
             b" aliases with an odd value",
         ),
-        _ => pen,
+        _ => about_order(pen, kind, count),
     }
 }
 
@@ -70,10 +77,18 @@ pub fn begin(pen: Pen, is_trace: bool, kind: Kind, count: u64) -> Pen {
     words::places(page::text(named, b"    "), is_trace)
 }
 
+// What an alias of that value means.
+fn meant(pen: Pen, value: u8) -> Pen {
+    if value < 2 {
+        return page::text(pen, b" means off");
+    }
+    page::hexed(pen, b" means address ", value / 2)
+}
+
 fn odd_value(pen: Pen, is_trace: bool, number: u64, value: u8) -> Pen {
     let placed = words::place(page::text(pen, b"    "), is_trace, number);
     let odd = page::hexed(placed, b": 0x", value);
-    let means = page::hexed(odd, b" means address ", value / 2);
+    let means = meant(odd, value);
     if 0x7F < value {
         return page::line_end(means);
     }

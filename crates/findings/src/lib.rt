@@ -1,5 +1,5 @@
-// The findings at a write of a script, while its writes are gone through: what is known between two writes, and for each
-// kind whether it is found at the write that comes next. (Of all writes only their extent has to be known before.)
+// The findings at a write of a script, while its writes are gone through: what is known between two writes, and for
+// each kind whether it is found at the write that comes next. (Of all writes only their extent has to be known before.)
 ghost use mathlib.Core.Path.{_≡_};
 ghost use Rattle.origins.specs.Origins.{FileOfBytes};
 ghost use Rattle.findings.specs.WritesSoFar.{nextBlock, startSoFar, stepSoFar};

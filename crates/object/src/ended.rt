@@ -13,6 +13,7 @@ use hub::Hub;
 use origins::RegistersWithOrigins;
 use page::Listed;
 use page::Pen;
+use registers::map;
 use words::kinds::Kind;
 
 fn format_name(pen: Pen, format: Format) -> Pen {
@@ -107,7 +108,8 @@ fn port(
     grade: FindingGrade,
     port: u8,
 ) -> Listed {
-    let line = lines::with_line(lines::no_lines(), origins::shared_origin(state, 0x20));
+    let forwarding = origins::shared_origin(state, map::FWD_CTL1 as u8);
+    let line = lines::with_line(lines::no_lines(), forwarding);
     let ports = ports::mask_of_port(port);
     let begun = findings::begin(list, kind, grade, line, ports);
     page::one_more(list, page::text(begun, b"}"))

@@ -1,11 +1,13 @@
 // The table of the addresses on the bus: who hears a write, and who answers a read where that is not the same.
-use crate::shared;
+use crate::marks;
 use clashes::addresses as reached;
 use endstate::addresses;
 use endstate::wrong;
 use hub::Hub;
 use origins::RegistersWithOrigins;
 use page::Pen;
+use registers::map;
+use std::num::wrapping_add_u8;
 use translation::Devices;
 use translation::PortDevice;
 use translation::ReadAnswer;
@@ -14,11 +16,12 @@ use translation::WriteAnswer;
 
 const LINES_COLUMN: u64 = 33;
 
-// Addresses that a device heard until its alias was replaced: for each the write that had set the alias and the one that
-// replaced it, 0 for none.
+// Addresses that a device heard until a write gave its alias another: for each the write that had set the alias and that
+// other one, 0 for none; and 1 where that one replaced it, which looks wrong, else 0.
 pub struct Lost {
     pub set: [u64; 128],
-    pub replaced: [u64; 128],
+    pub changed: [u64; 128],
+    pub wrong: [u8; 128],
 }
 
 fn remote_named(pen: Pen, remote: Remote) -> Pen {
@@ -33,9 +36,31 @@ fn device_named(pen: Pen, device: PortDevice) -> Pen {
     remote_named(page::numbered(pen, b"port ", device.port as u64), remote)
 }
 
+// The line that set the device's own address, 0 for none.
+fn own_line(state: RegistersWithOrigins, device: PortDevice) -> u64 {
+    let remote = device.remote;
+    match remote {
+        Remote::Serializer { address: _ } => {
+            origins::port_origin(state, device.port, map::SER_ID as u8)
+        }
+        Remote::Target { number, address: _ } => {
+            let offset = wrapping_add_u8(map::TARGET_ID_0 as u8, number);
+            origins::port_origin(state, device.port, offset)
+        }
+    }
+}
+
+// Whether the device's own address was set.
+fn own_address(pen: Pen, state: RegistersWithOrigins, device: PortDevice) -> Pen {
+    if own_line(state, device) == 0 {
+        return page::text(pen, b" (not set)");
+    }
+    pen
+}
+
 // A device, with the lines that make it hear the address.
 fn device_row(pen: Pen, is_trace: bool, state: RegistersWithOrigins, device: PortDevice) -> Pen {
-    let named = device_named(pen, device);
+    let named = own_address(device_named(pen, device), state, device);
     let lines = addresses::device_lines(state, device);
     let placed = page::to_column(named, LINES_COLUMN);
     page::line_end(words::three_lines(placed, is_trace, lines))
@@ -98,22 +123,23 @@ fn is_one(devices: Devices) -> bool {
 // The address at the start of its row, marked where it reaches several ports and that looks wrong.
 fn address_named(pen: Pen, hub: Hub, state: RegistersWithOrigins, address: u8) -> Pen {
     let clash = addresses::same_address(hub, state, address);
-    let marked = shared::mark(pen, wrong::is_wrong(clash));
+    let marked = marks::mark(pen, wrong::is_wrong(clash));
     page::text(page::hex(marked, address), b"  ")
 }
 
-// An address that nobody hears: told only where a device heard it until its alias was replaced.
+// An address that nobody hears: told only where a device heard it until its alias got another.
 fn lost_row(pen: Pen, is_trace: bool, lost: Lost, address: u8) -> Pen {
     let at = (address % 128) as usize;
-    let replaced = lost.replaced[at];
-    if replaced == 0 {
+    let changed = lost.changed[at];
+    if changed == 0 {
         return pen;
     }
-    let named = page::text(page::hexed(pen, b"! ", address), b"  nobody any more");
+    let marked = marks::mark(pen, lost.wrong[at] == 1);
+    let named = page::text(page::hex(marked, address), b"  nobody any more");
     let placed = page::to_column(named, LINES_COLUMN);
     let set = words::place(placed, is_trace, lost.set[at]);
     let by = page::text(set, b", replaced by ");
-    page::line_end(words::place(by, is_trace, replaced))
+    page::line_end(words::place(by, is_trace, changed))
 }
 
 fn row(

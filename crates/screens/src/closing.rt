@@ -4,26 +4,33 @@ use crate::title::WriteCounts;
 use page::Pen;
 
 // Whether the blocks may be run in any order, where there are several.
-pub fn order(pen: Pen, is_trace: bool, any_order: bool, blocks: u64) -> Pen {
-    if any_order && blocks < 2 {
+pub fn order(pen: Pen, is_trace: bool, any_order: bool, counts: WriteCounts) -> Pen {
+    if any_order && counts.selections < 2 {
         return pen;
     }
     let line = page::line_end(pen);
-    if any_order {
+    if any_order && counts.not_followed == 0 {
         return page::line(
             line,
             b"The setup blocks may be run in any order: they end alike.",
         );
     }
+    if any_order {
+        return page::line(
+            line,
+            b"The setup blocks may be run in any order, in what this model follows.",
+        );
+    }
     let order = words::places(page::text(line, b"The order of the "), is_trace);
-    page::line(order, b"matters; check tells why.")
+    page::line(order, b"may matter; check tells why.")
 }
 
 // What the model cannot say; the numbers of the writes that are not followed come after it, if there are some.
 pub fn limits(pen: Pen, is_trace: bool, not_followed: u64) -> Pen {
     let begun = page::line(page::line_end(pen), b"What this model cannot say");
     let output = page::line(begun, b"  whether an output is switched on (register 33)");
-    let camera = page::line(output, b"  which camera is plugged into which port");
+    let format = page::line(output, b"  which pictures a camera sends, RAW10 or RAW12");
+    let camera = page::line(format, b"  which camera is plugged into which port");
     if not_followed == 0 {
         return camera;
     }
@@ -35,8 +42,14 @@ pub fn limits(pen: Pen, is_trace: bool, not_followed: u64) -> Pen {
 
 // Nothing looks wrong. A script that sets nothing does not look right either.
 fn nothing_wrong(pen: Pen, counts: WriteCounts) -> Pen {
+    if counts.writes == 0 {
+        return page::line(pen, b"There is no register write: is this the right file?");
+    }
     if title::sets_nothing(counts) {
-        return page::line(pen, b"Nothing was set: the hub is as it starts.");
+        return page::line(
+            pen,
+            b"Nothing that this model follows was set up: there is nothing to judge.",
+        );
     }
     if counts.not_followed == 0 {
         return page::line(pen, b"Nothing looks wrong.");

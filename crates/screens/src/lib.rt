@@ -3,6 +3,6 @@
 pub mod bus;
 pub mod clash_list;
 pub mod closing;
+mod marks;
 pub mod pictures;
-mod shared;
 pub mod title;

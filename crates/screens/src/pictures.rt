@@ -1,5 +1,5 @@
 // The table of the ports: the output and the channels that their pictures leave on, each with the line that set it.
-use crate::shared;
+use crate::marks;
 use clashes::channels as forwarded;
 use endstate::channels;
 use endstate::channels::PortLines;
@@ -51,7 +51,7 @@ fn route(pen: Pen, is_trace: bool, hub: Hub, port: u8, lines: PortLines) -> Pen 
 }
 
 fn row(pen: Pen, is_trace: bool, hub: Hub, state: RegistersWithOrigins, port: u8) -> Pen {
-    let marked = shared::mark(pen, shared::shares_channel(hub, state, port));
+    let marked = marks::mark(pen, marks::is_port_wrong(hub, state, port));
     let numbered = page::numbered(marked, b"port ", port as u64);
     let spaced = page::text(numbered, b"  ");
     let lines = channels::port_lines(state, port);

@@ -1,21 +1,21 @@
 // What was run: the file and the hub, and how many writes there were.
 use page::Pen;
 use page::shown;
+use std::num::wrapping_add_u64;
 
-// How many register writes there were; of how many the register is not followed; and how many went to a per-port
-// register while no port was selected.
+// How many register writes there were; of how many the register is not followed; how many went to a per-port register
+// while no port was selected; and how many selected ports.
 pub struct WriteCounts {
     pub writes: u64,
     pub not_followed: u64,
     pub no_port: u64,
+    pub selections: u64,
 }
 
-// Whether no write reached a register.
+// Whether no write reached a register but that of the selection.
 pub(crate) fn sets_nothing(counts: WriteCounts) -> bool {
-    if counts.writes < counts.not_followed {
-        return true;
-    }
-    counts.writes - counts.not_followed <= counts.no_port
+    let idle = wrapping_add_u64(counts.not_followed, counts.no_port);
+    counts.writes == wrapping_add_u64(idle, counts.selections)
 }
 
 // The file's name; standard input for -.
@@ -58,7 +58,7 @@ pub fn writes(pen: Pen, counts: WriteCounts) -> Pen {
     if sets_nothing(counts) {
         return page::line(
             counted,
-            b", and none of them sets a register: the hub is as it starts",
+            b", and none sets up anything that this model follows",
         );
     }
     if counts.not_followed == 0 && counts.no_port == 0 {

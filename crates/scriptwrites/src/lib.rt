@@ -12,8 +12,8 @@ pub enum NextWrite {
     Write { number: u64, offset: u8, value: u8 },
 }
 
-// What a turn gives: the script after it, the write, and whether nothing is left to take (the last turn may give a write
-// too).
+// What a turn gives: the script after it, the write, and whether nothing is left to take (the last turn may give a
+// write too).
 pub struct WriteTurn {
     pub file: ScriptFile,
     pub write: NextWrite,

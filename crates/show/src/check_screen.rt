@@ -6,6 +6,8 @@ use crate::reading;
 use crate::reading::Reading;
 use crate::told::Counts;
 use crate::told::Task;
+use checklist::clash_list;
+use checklist::clash_list::Wanted;
 use checklist::notes;
 use checklist::things;
 use checklist::typed::File;
@@ -16,8 +18,6 @@ use ordering::ticks::Ticks;
 use origins::RegistersWithOrigins;
 use page::Listed;
 use page::Pen;
-use screens::clash_list;
-use screens::clash_list::Wanted;
 use screens::closing;
 use screens::title;
 use words::kinds::Kind;
@@ -58,10 +58,19 @@ fn wrong(
     let file = reading.file;
     let begun = page::new_list(pen);
     let again = tell_if(reading, path, Task::Again, counts.again, begun);
-    let channels = things::same_channel(again, file, hub, state);
-    let addresses = things::same_address(channels, file, hub, state);
-    let no_port = tell_if(reading, path, Task::NoPort, counts.no_port, addresses);
-    things::more(not_set_up(no_port, file, hub, state, ticks))
+    let blocks = things::more(again, 0);
+    let clashes = clash_list::clash_list(blocks, Wanted::Wrong, file, hub, state);
+    let before = clashes.count;
+    let no_port = tell_if(reading, path, Task::NoPort(before), counts.no_port, clashes);
+    let writes = things::more(no_port, before);
+    let all = not_set_up(writes, file, hub, state, ticks);
+    all.pen
+}
+
+// What is shared as meant.
+fn meant(file: File, pen: Pen, hub: Hub, state: RegistersWithOrigins) -> Pen {
+    let list = clash_list::clash_list(page::new_list(pen), Wanted::Meant, file, hub, state);
+    list.pen
 }
 
 // The notes of a kind, with the numbers of their writes.
@@ -153,6 +162,6 @@ pub(crate) fn print(reading: Reading, path: &[u8], facts: Facts) -> Pen {
     let things = facts::count_wrong(facts);
     let counted = closing::count_of_things(named, facts::write_counts(facts), things);
     let told = wrong(reading, path, counted, hub, state, facts.ticks, counts);
-    let meant = clash_list::clash_list(told, Wanted::Meant, hub, state);
+    let meant = meant(reading.file, told, hub, state);
     all_notes(reading, path, meant, hub, facts.any_order, counts)
 }

@@ -72,5 +72,6 @@ pub(crate) fn write_counts(facts: Facts) -> WriteCounts {
         writes: facts.writes,
         not_followed: facts.counts.not_followed,
         no_port: facts.counts.no_port,
+        selections: facts.blocks,
     }
 }

@@ -17,15 +17,16 @@ use registers::map;
 use words::kinds::Kind;
 
 // The write; the ports whose register it reaches; for each port the origin of its register where that is replaced, the
-// earlier selection where the port is ticked again, what its register held before, and the address that a device of it
-// heard by a replaced alias, 0 for none; and whether there is a finding of each other kind.
+// earlier selection where the port is ticked again, what its register held before, and where that is an alias by which a
+// device of the port heard an address, and it gets another, the origin of the alias, 0 for none; and whether there is a
+// finding of each other kind.
 pub(crate) struct Found {
     pub write: Write,
     pub reached: u8,
     pub replaced: [u64; 4],
     pub earlier: [u64; 4],
     pub old: [u8; 4],
-    pub lost: [u8; 4],
+    pub lost: [u64; 4],
     pub no_port: bool,
     pub shared_in_block: bool,
     pub not_followed: bool,
@@ -65,19 +66,19 @@ fn hub_at(known: WritesSoFar, address: u8) -> Hub {
     facts::hub_with(address, numbers.registers)
 }
 
-// The address that a device of a port hears by an alias that is replaced.
-fn lost_on(known: WritesSoFar, address: u8, offset: u8, port: u8, origin: u64) -> u8 {
-    if origin == 0 {
-        return 0;
-    }
+// The origin of a port's alias that gets another address, where a device of the port hears the one that it has.
+fn lost_on(known: WritesSoFar, address: u8, effect: Effect, offset: u8, port: u8) -> u64 {
     if !by_effect::is_alias_register(offset) {
         return 0;
     }
-    let heard = old_on(known, offset, port) / 2;
-    if addresses::address_reaches(hub_at(known, address), heard, port) {
-        return heard;
+    if !by_effect::changes_port(effect, port) {
+        return 0;
     }
-    0
+    let heard = old_on(known, offset, port) / 2;
+    if !addresses::address_reaches(hub_at(known, address), heard, port) {
+        return 0;
+    }
+    origins::port_origin(known.numbers, port, offset)
 }
 
 // What is found at the write that comes next, on a hub with that address.
@@ -107,10 +108,10 @@ pub(crate) fn at(known: WritesSoFar, address: u8, whole: Extent, write: Write) -
             old_on(known, offset, 3),
         ],
         lost: [
-            lost_on(known, address, offset, 0, replaced[0]),
-            lost_on(known, address, offset, 1, replaced[1]),
-            lost_on(known, address, offset, 2, replaced[2]),
-            lost_on(known, address, offset, 3, replaced[3]),
+            lost_on(known, address, effect, offset, 0),
+            lost_on(known, address, effect, offset, 1),
+            lost_on(known, address, effect, offset, 2),
+            lost_on(known, address, effect, offset, 3),
         ],
         no_port: by_effect::is_no_port(effect),
         shared_in_block: on_order::shared_in_block(known, whole, offset),
@@ -139,7 +140,7 @@ pub(crate) fn is_selection(found: Found) -> bool {
 }
 
 // Of a port: the origin of its register where it is replaced, 0 for none; what the register held before and holds after
-// the write; and the address that is lost, 0 for none.
+// the write; and the origin of an alias whose address is lost, 0 for none.
 pub(crate) fn replaced_at(found: Found, port: u8) -> u64 {
     found.replaced[(port % 4) as usize]
 }
@@ -148,7 +149,7 @@ pub(crate) fn old_value(found: Found, port: u8) -> u8 {
     found.old[(port % 4) as usize]
 }
 
-pub(crate) fn lost_address(found: Found, port: u8) -> u8 {
+pub(crate) fn lost_at(found: Found, port: u8) -> u64 {
     found.lost[(port % 4) as usize]
 }
 

@@ -10,7 +10,6 @@ use page::Pen;
 use screens::bus;
 use screens::bus::Lost;
 use screens::clash_list;
-use screens::clash_list::Wanted;
 use screens::closing;
 use screens::pictures;
 use screens::title;
@@ -27,7 +26,7 @@ fn begin(address: u8, path: &[u8], facts: Facts) -> Pen {
 fn tables(pen: Pen, is_trace: bool, hub: Hub, state: RegistersWithOrigins, lost: Lost) -> Pen {
     let routes = pictures::table(pen, is_trace, hub, state);
     let addresses = bus::table(routes, is_trace, hub, state, lost);
-    clash_list::clash_list(addresses, Wanted::All, hub, state)
+    clash_list::clash_list(addresses, hub, state)
 }
 
 // What the model cannot say, with the numbers of the writes that it does not follow.
@@ -44,9 +43,9 @@ pub(crate) fn print(reading: Reading, path: &[u8], facts: Facts) -> Pen {
     let is_trace = reading.file.is_trace;
     let begun = begin(reading.address, path, facts);
     let told = tables(begun, is_trace, facts.hub, facts.state, facts.lost);
-    let ordered = closing::order(told, is_trace, facts.any_order, facts.blocks);
+    let counts = facts::write_counts(facts);
+    let ordered = closing::order(told, is_trace, facts.any_order, counts);
     let limited = limits(reading, path, ordered, facts.counts.not_followed);
     let wrong = facts::count_wrong(facts);
-    let counts = facts::write_counts(facts);
     closing::verdict(limited, counts, wrong)
 }

@@ -5,6 +5,7 @@ use crate::found::Found;
 use crate::told;
 use crate::told::Counts;
 use crate::told::Told;
+use findings::by_effect;
 use screens::bus::Lost;
 
 // One write more of each kind that is found at it.
@@ -40,20 +41,45 @@ fn select(told: Told, found: Found) -> Told {
     next
 }
 
-// An address that a device heard, and no longer hears by that alias; 0 is none.
-fn lose(lost: Lost, address: u8, set: u64, replaced: u64) -> Lost {
+// The address that a device of a port heard by an alias that gets another, with the origin of the alias, 0 for none.
+fn lose(lost: Lost, found: Found, port: u8) -> Lost {
     let mut next = lost;
-    if address == 0 {
+    let set = found::lost_at(found, port);
+    if set == 0 {
         return next;
     }
-    let at = (address % 128) as usize;
+    let at = (found::old_value(found, port) / 2 % 128) as usize;
     next.set[at] = set;
-    next.replaced[at] = replaced;
+    next.changed[at] = found.write.number;
+    next.wrong[at] = 0;
+    if found::replaced_at(found, port) != 0 {
+        next.wrong[at] = 1;
+    }
     next
 }
 
-// The register of a port is replaced: the first such of a block is counted, and an address that is lost is kept.
-fn replace(told: Told, found: Found, port: u8, origin: u64) -> Told {
+// An address that an alias gets is not lost any more.
+fn regain(lost: Lost, found: Found) -> Lost {
+    let mut next = lost;
+    if found.reached == 0 || !by_effect::is_alias_register(found.write.offset) {
+        return next;
+    }
+    let at = (found.write.value / 2 % 128) as usize;
+    next.set[at] = 0;
+    next.changed[at] = 0;
+    next
+}
+
+// The addresses that are lost after a write.
+fn lost_after(lost: Lost, found: Found) -> Lost {
+    let port_0 = lose(lost, found, 0);
+    let port_1 = lose(port_0, found, 1);
+    let port_2 = lose(port_1, found, 2);
+    regain(lose(port_2, found, 3), found)
+}
+
+// The register of a port is replaced: the first such of a block is counted.
+fn replace(told: Told, port: u8) -> Told {
     let mut next = told;
     let mut counts = told.counts;
     let before = told.block;
@@ -61,22 +87,14 @@ fn replace(told: Told, found: Found, port: u8, origin: u64) -> Told {
     next.counts = counts;
     let after = block::with_replaced(before, port);
     next.block = after;
-    let lost = lose(
-        told.lost,
-        found::lost_address(found, port),
-        origin,
-        found.write.number,
-    );
-    next.lost = lost;
     next
 }
 
 fn at_port(told: Told, found: Found, port: u8) -> Told {
-    let origin = found::replaced_at(found, port);
-    if origin == 0 {
+    if found::replaced_at(found, port) == 0 {
         return told;
     }
-    replace(told, found, port, origin)
+    replace(told, port)
 }
 
 // What the write replaces on the four ports.
@@ -91,5 +109,8 @@ pub(crate) fn at_write(told: Told, found: Found) -> Told {
     let mut next = select(told, found);
     let counts = counted(next.counts, found);
     next.counts = counts;
-    at_ports(next, found)
+    let mut after = at_ports(next, found);
+    let lost = lost_after(after.lost, found);
+    after.lost = lost;
+    after
 }

@@ -135,9 +135,36 @@ fn select(told: Told, found: Found) -> Told {
     next
 }
 
+// A port that the block selects again, and of which it replaces nothing.
+fn too_port(list: Listed, file: File, over: Block, port: u8) -> Listed {
+    let first = block::earlier_of(over, port);
+    if first == 0 || bits::is_set(over.replaced, port) {
+        return list;
+    }
+    let pen = things::selected_too(list, file, port, first);
+    Listed {
+        pen,
+        count: list.count,
+    }
+}
+
+// The block is over: where it replaced something, its other ports that were selected before are told too.
+fn end_block(told: Told, file: File) -> Told {
+    let over = told.block;
+    if over.replaced == 0 {
+        return told;
+    }
+    let port_0 = too_port(told.list, file, over, 0);
+    let port_1 = too_port(port_0, file, over, 1);
+    let port_2 = too_port(port_1, file, over, 2);
+    told::with_list(told, too_port(port_2, file, over, 3))
+}
+
 fn again_at(told: Told, file: File, found: Found) -> Told {
-    let selected = select(told, found);
-    let port_0 = again_port(selected, file, found, 0);
+    if found::is_selection(found) {
+        return select(end_block(told, file), found);
+    }
+    let port_0 = again_port(told, file, found, 0);
     let port_1 = again_port(port_0, file, found, 1);
     let port_2 = again_port(port_1, file, found, 2);
     again_port(port_2, file, found, 3)
@@ -186,9 +213,9 @@ fn numbers_at(told: Told, kind: Kind, found: Found) -> Told {
     }
 }
 
-fn no_port_at(list: Listed, file: File, found: Found) -> Listed {
+fn no_port_at(list: Listed, before: u64, file: File, found: Found) -> Listed {
     if found.no_port {
-        return things::no_port(list, file, found.write.offset, found.write.number);
+        return things::no_port(list, before, file, found.write.offset, found.write.number);
     }
     list
 }
@@ -208,7 +235,7 @@ pub(crate) fn at_write(task: Task, file: File, told: Told, found: Found) -> Told
         Task::Count(kind) => told::with_list(told, count_at(list, kind, found)),
         Task::Object(kind) => told::with_list(told, object_at(list, kind, found)),
         Task::Again => again_at(told, file, found),
-        Task::NoPort => told::with_list(told, no_port_at(list, file, found)),
+        Task::NoPort(before) => told::with_list(told, no_port_at(list, before, file, found)),
         Task::Numbers(kind) => numbers_at(told, kind, found),
         Task::OddAliases => told::with_list(told, odd_alias_at(list, file.is_trace, found)),
     }
@@ -217,10 +244,11 @@ pub(crate) fn at_write(task: Task, file: File, told: Told, found: Found) -> Told
 // After the last write.
 pub(crate) fn at_end(job: Job, told: Told) -> Told {
     let task = job.task;
-    if let Task::Numbers(kind) = task {
-        return end_numbers(told, kind);
+    match task {
+        Task::Again => end_block(told, job.file),
+        Task::Numbers(kind) => end_numbers(told, kind),
+        _ => told,
     }
-    told
 }
 
 // The last block is over.

@@ -7,14 +7,15 @@ use std::num::wrapping_add_u64;
 use words::kinds::Kind;
 
 // What is done at each write: everything is counted, or one kind is; the findings of a kind are told as parts of the
-// object; or something is told on the screen: the blocks that select a port again and replace something, the writes while
-// no port is selected, the numbers of the writes of a kind, and the odd values of aliases.
+// object; or something is told on the screen: the blocks that select a port again and replace something, the writes
+// while no port is selected (with how many things stand before them), the numbers of the writes of a kind, and the odd
+// values of aliases.
 pub(crate) enum Task {
     Survey,
     Count(Kind),
     Object(Kind),
     Again,
-    NoPort,
+    NoPort(u64),
     Numbers(Kind),
     OddAliases,
 }
@@ -88,7 +89,8 @@ pub(crate) fn nothing(list: Listed) -> Told {
         },
         lost: Lost {
             set: [0; 128],
-            replaced: [0; 128],
+            changed: [0; 128],
+            wrong: [0; 128],
         },
     }
 }

@@ -6,10 +6,10 @@ use Rattle.screens.proofs.clash_list.all_addresses.Statement.{statement
 use Rattle.screens.proofs.clash_list.all_addresses.Tie as tie
 
 abbrev Inv-loop : tie.InvT-loop
-Inv-loop wanted hub state next₀ number₀ next number = Unit {0}
+Inv-loop hub state next₀ number₀ next number = Unit {0}
 
 abbrev μ-loop : tie.MeasureT-loop
-μ-loop wanted hub state next₀ number₀ next number = 128 - number
+μ-loop hub state next₀ number₀ next number = 128 - number
 
 loop-holds : tie.Need-loop-holds Inv-loop μ-loop
 loop-holds c = search needs

@@ -1,7 +1,8 @@
-// Whether a port shares something with another, and that looks wrong.
+// The marks of what looks wrong, and which ports have one.
 use endstate::channels;
 use endstate::findings::Clash;
 use endstate::findings::Grade;
+use endstate::unset;
 use endstate::wrong;
 use formats::Format;
 use hub::Hub;
@@ -52,9 +53,14 @@ fn shares_output(
         || shares(hub, state, format, output, 3, port)
 }
 
-pub(crate) fn shares_channel(hub: Hub, state: RegistersWithOrigins, port: u8) -> bool {
+fn shares_channel(hub: Hub, state: RegistersWithOrigins, port: u8) -> bool {
     shares_output(hub, state, Format::Raw10, 0, port)
         || shares_output(hub, state, Format::Raw10, 1, port)
         || shares_output(hub, state, Format::Raw12, 0, port)
         || shares_output(hub, state, Format::Raw12, 1, port)
+}
+
+// Whether a port's picture looks wrong: it shares an output and channel, or the port is forwarded and was not set up.
+pub(crate) fn is_port_wrong(hub: Hub, state: RegistersWithOrigins, port: u8) -> bool {
+    shares_channel(hub, state, port) || unset::not_set_up(hub, state, port)
 }

@@ -1,9 +1,9 @@
--- `checklist::things::typed_lines` is safe and ends: the loop goes over the twelve numbers once.
+-- `checklist::clash_list::typed_lines` is safe and ends: the loop goes over the twelve numbers once.
 -- Assumes nothing.
 use Prim.Native.Nat.{_-_}
 use borrow.Author.Needs.{needs}
-use Rattle.checklist.proofs.things.typed_lines.Statement.{statement}
-use Rattle.checklist.proofs.things.typed_lines.Tie as tie
+use Rattle.checklist.proofs.clash_list.typed_lines.Statement.{statement}
+use Rattle.checklist.proofs.clash_list.typed_lines.Tie as tie
 
 abbrev Inv-loop : tie.InvT-loop
 Inv-loop file lines written₀ i₀ written i = Unit {0}

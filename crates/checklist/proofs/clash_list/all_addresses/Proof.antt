@@ -1,15 +1,15 @@
--- `checklist::things::same_address` is safe and ends: the loop goes over the 128 addresses once.
+-- `checklist::clash_list::all_addresses` is safe and ends: the loop goes over the 128 addresses once.
 -- Assumes nothing.
 use Prim.Native.Nat.{_-_}
 use borrow.Author.Needs.{needs}
-use Rattle.checklist.proofs.things.same_address.Statement.{statement}
-use Rattle.checklist.proofs.things.same_address.Tie as tie
+use Rattle.checklist.proofs.clash_list.all_addresses.Statement.{statement}
+use Rattle.checklist.proofs.clash_list.all_addresses.Tie as tie
 
 abbrev Inv-loop : tie.InvT-loop
-Inv-loop file hub state next₀ number₀ next number = Unit {0}
+Inv-loop wanted file hub state next₀ number₀ next number = Unit {0}
 
 abbrev μ-loop : tie.MeasureT-loop
-μ-loop file hub state next₀ number₀ next number = 128 - number
+μ-loop wanted file hub state next₀ number₀ next number = 128 - number
 
 loop-holds : tie.Need-loop-holds Inv-loop μ-loop
 loop-holds c = search needs
@@ -29,7 +29,7 @@ loop-again c = search needs
 returns : tie.Need-returns Inv-loop μ-loop
 returns c = search needs
 
-pub same-address-spec : {M : Type 1} → statement M
-same-address-spec =
+pub all-addresses-spec : {M : Type 1} → statement M
+all-addresses-spec =
     tie.close
     (tie.spec Inv-loop μ-loop loop-holds address-requires add-number loop-less loop-again returns)
