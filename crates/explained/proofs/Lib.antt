@@ -1,2 +1,3 @@
 pub mod ExplainedLaws
+pub mod ReorderedLaws
 pub mod Examples

@@ -47,11 +47,19 @@ unfolding runWrites runBlock
 run-block hub [] = refl
 run-block hub (w ∷ ws) = run-block (hubBurst hub (w .offset) (w .value ∷ [])) ws
 
-run-registers : (hub : Hub) (ws : List NumberedWrite)
+pub run-registers : (hub : Hub) (ws : List NumberedWrite)
     → runWrites hub ws ≡ withRegisters hub (afterEach (hub .registers) ws)
 run-registers hub ws =
     run-block hub ws ∙ block-registers hub (blockOf ws)
     ∙ ap (λ (l : List RegisterWrite). withRegisters hub (writeEach BySelection (hub .registers) l)) (block-writes ws)
+
+-- so a run is that of its writes without their numbers
+pub same-run : (hub : Hub) (a b : List NumberedWrite) → unnumberedWrites a ≡ unnumberedWrites b
+    → runWrites hub a ≡ runWrites hub b
+same-run hub a b e =
+    run-registers hub a
+    ∙ ap (λ (l : List RegisterWrite). withRegisters hub (writeEach BySelection (hub .registers) l)) e
+    ∙ sym (run-registers hub b)
 
 all-writes : (blocks : List (List NumberedWrite)) → allWrites (blocksOf blocks) ≡ unnumberedWrites (joinedBlocks blocks)
 unfolding allWrites unnumberedWrites
