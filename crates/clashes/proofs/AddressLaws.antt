@@ -19,7 +19,7 @@ use Rattle.translation.specs.Translation.{Addressed, theHub, noDevice, found, a
 use Rattle.clashes.specs.Channels.{isForwarded}
 use Rattle.clashes.specs.Addresses.{anyBehind, answerReaches, addressReaches, anyBelow, isReached, hasNoAddress}
 use Rattle.clashes.specs.Addresses.{Hearer, AddressReachesExact, AddressSharedExact, ReachedMeans, ReachedExact}
-use Rattle.clashes.specs.Addresses.{NoAddressExact}
+use Rattle.clashes.specs.Addresses.{addressShared, OnlyTheseAddresses, NoAddressExact}
 use Rattle.clashes.proofs.TwoPorts.{two-only, two-every}
 
 module _ (hub : Hub) (address port : ℕ) {reply : Reply (Addressed (List PortDevice))}
@@ -160,9 +160,9 @@ module _ (hub : Hub) (port : ℕ) where
   reached-none n e q = rw e at q
 
   -- an address above 0x7F is refused, so it reaches no port
-  high : (address : ℕ) → 127 < address → addressReaches hub address port ≡ true → ⊥
+  high : (address : ℕ) → 127 < address → addressReaches hub address port ≡ false
   unfolding addressReaches whoHearsWrite addresseeOf
-  high address h e = let q : _≡_ {A = Bool} false true = rw (lt-ltb 127 address h) at e in zero-not-one (cc)
+  high address h = rw (lt-ltb 127 address h)
 
   pub reached-means : ReachedMeans hub port
   unfolding isReached
@@ -176,12 +176,24 @@ module _ (hub : Hub) (port : ℕ) where
     where
       go : (address : ℕ) → addressReaches hub address port ≡ true → (b : Bool) → ltb 127 address ≡ b
           → anyBelow (λ a. addressReaches hub a port) 128 ≡ true
-      go address t true q = absurd (high address (ltb-true 127 address q) t)
+      go address t true q = let f = high address (ltb-true 127 address q) in zero-not-one (cc)
       go address t false q =
           any-hit (λ a. addressReaches hub a port) 128 address (omega (arith, ltb-false 127 address q)) t
 
 pub reached-exact : ReachedExact
 reached-exact hub port = reached-means hub port
+
+pub only-these-addresses : OnlyTheseAddresses
+only-these-addresses hub address h =
+    record { unreached = λ port. high hub port address h; unshared = go (addressShared hub address) refl }
+  where
+    go : (b : Bool) → addressShared hub address ≡ b → b ≡ false
+    go false e = refl
+    go true e =
+        let t = two-only (addressReaches hub address) e in
+        let f = high hub (t .low) address h in
+        let r = t .first in
+        zero-not-one (cc)
 
 -- a port is reached exactly where a device behind it hears a write to some address
 module _ (hub : Hub) (port : ℕ) where

@@ -1,18 +1,25 @@
--- The definitions of specs/Channels.antt by their cases, and the law of it.
+-- The definitions of specs/Channels.antt by their cases, and the laws of it.
 -- Assumes nothing.
 use mathlib.Core.Path.{_≡_, refl}
-use mathlib.Core.Bool.{true, false}
-use Prim.Native.Nat.{ℕ}
+use mathlib.Core.Bool.{Bool, true, false, cond}
+use Prim.Native.Nat.{ℕ, _*_, _+_, _<_}
+use native.Mathlib.Omega.{arith}
 use borrow.Author.Tests.{eq-eqb, ne-eqb, eqb-true}
-use lib.Dec.{eqb}
-use Rattle.laws.specs.Reply.{Reply, refusedWith, given}
+use lib.Dec.{eqb, ltb}
+use Rattle.laws.specs.Bits.{digit, bit}
+use Rattle.laws.specs.Elements.{AreBytes}
+use Rattle.laws.specs.Reply.{Reply, refusedWith, refused, given}
 use Rattle.laws.proofs.Absurd.{zero-not-one}
 use Rattle.laws.proofs.Bools.{both}
 use Rattle.formats.specs.declared.Format.{Format}
+use Rattle.formats.specs.declared.Format.the-variants.{Raw10, Raw12}
+use Rattle.registers.specs.declared.RegisterFile.{RegisterFile}
+use Rattle.registers.specs.RegisterMap.{FWD-CTL1, RAW10-ID, RAW12-ID}
+use Rattle.registers.specs.RegisterFiles.{sharedAt, pageAt}
 use Rattle.hub.specs.declared.Hub.{Hub}
-use Rattle.hub.specs.Routes.{PortRoute, off, output, routeOf}
+use Rattle.hub.specs.Routes.{PortRoute, off, output, virtualChannel, portRoute, routeOf}
 use Rattle.clashes.specs.Channels.{forwards, isForwarded, channelOf, isChannel, leavesBy, leavesOn}
-use Rattle.clashes.specs.Channels.{RouteTo, LeavesOnExact, ChannelSharedExact}
+use Rattle.clashes.specs.Channels.{RouteTo, LeavesOnExact, ChannelSharedExact, OnlyTheseChannels}
 use Rattle.clashes.proofs.TwoPorts.{two-only, two-every}
 
 module _ (csi vc out channel : ℕ) where
@@ -72,3 +79,34 @@ channel-shared-exact hub format out channel =
           (leaves-on-exact hub format out channel (t .low) .every (t .first))
           (leaves-on-exact hub format out channel (t .high) .every (t .second));
     }
+
+-- the parts of a route that is to an output
+same-parts : (above is-off : Bool) (x y z : ℕ) {out raw10 raw12 : ℕ}
+    → cond above (refused 1) (given (cond is-off off (output x y z))) ≡ given (output out raw10 raw12)
+    → (x ≡ out) × (y ≡ raw10) × (z ≡ raw12)
+same-parts true is-off x y z e = zero-not-one (cc)
+same-parts false true x y z e = zero-not-one (cc)
+same-parts false false x y z e = (cc, cc, cc)
+
+module _ (file : RegisterFile) (port : ℕ) {out raw10 raw12 : ℕ}
+    (e : routeOf file port ≡ given (output out raw10 raw12)) where
+  parts : (digit port (sharedAt file FWD-CTL1) ≡ out)
+      × (virtualChannel (pageAt (file .pages) port RAW10-ID) ≡ raw10)
+      × (virtualChannel (pageAt (file .pages) port RAW12-ID) ≡ raw12)
+  unfolding routeOf portRoute
+  parts = same-parts (ltb 3 port) (bit (4 + port) (sharedAt file FWD-CTL1)) _ _ _ e
+
+  output-within : out < 2
+  output-within = omega (arith, parts .0)
+
+  channel-within : AreBytes (file .pages) → (format : Format) → channelOf format raw10 raw12 < 4
+  channel-within bytes Raw10 = omega (arith, parts .1, bytes (256 * port + RAW10-ID))
+  channel-within bytes Raw12 = omega (arith, parts .2, bytes (256 * port + RAW12-ID))
+
+pub only-these-channels : OnlyTheseChannels
+only-these-channels hub format out channel e =
+    let t = channel-shared-exact hub format out channel .only e in
+    let r = t .first in (
+      output-within (hub .registers) (t .low) (r .route),
+      λ bytes. (let h = channel-within (hub .registers) (t .low) (r .route) bytes format in rw (r .vc) at h),
+    )

@@ -90,6 +90,14 @@ pub record ReachedMeans (hub : Hub) (port : ℕ) : Type 0 where
 abbrev pub ReachedExact : Type 0
 ReachedExact = (hub : Hub) (port : ℕ) → ReachedMeans hub port
 
+-- An address above 0x7F reaches no port, and so is not shared: the 128 addresses that are looked at are all there are.
+pub record ReachesNone (hub : Hub) (address : ℕ) : Type 0 where
+  pub unreached : (port : ℕ) → addressReaches hub address port ≡ false
+  pub unshared : addressShared hub address ≡ false
+
+abbrev pub OnlyTheseAddresses : Type 0
+OnlyTheseAddresses = (hub : Hub) (address : ℕ) → 127 < address → ReachesNone hub address
+
 -- "a forwarded port of which no device hears a write to any address", of any size
 pub record NoAddress (hub : Hub) (port : ℕ) : Type 0 where
   pub forwarded : isForwarded hub port ≡ true

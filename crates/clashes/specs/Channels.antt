@@ -4,6 +4,7 @@ use mathlib.Core.Path.{_≡_}
 use mathlib.Core.Bool.{Bool, true, false, _&&_}
 use Prim.Native.Nat.{ℕ, _<_}
 use lib.Dec.{eqb}
+use Rattle.laws.specs.Elements.{AreBytes}
 use Rattle.laws.specs.Reply.{Reply, refusedWith, given}
 use Rattle.formats.specs.declared.Format.{Format}
 use Rattle.formats.specs.declared.Format.the-variants.{Raw10, Raw12}
@@ -73,3 +74,10 @@ pub record ChannelSharedMeans (hub : Hub) (format : Format) (out channel : ℕ) 
 
 abbrev pub ChannelSharedExact : Type 0
 ChannelSharedExact = (hub : Hub) (format : Format) (out channel : ℕ) → ChannelSharedMeans hub format out channel
+
+-- No two ports share an output above 1, or a channel above 3: so the eight places of a format that are looked at, two
+-- outputs with four channels each, are all there are. (`AreBytes` holds of every array of bytes.)
+abbrev pub OnlyTheseChannels : Type 0
+OnlyTheseChannels =
+    (hub : Hub) (format : Format) (out channel : ℕ) → channelShared hub format out channel ≡ true
+    → (out < 2) × (AreBytes (hub .registers .pages) → channel < 4)
