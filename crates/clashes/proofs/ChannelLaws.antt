@@ -1,6 +1,6 @@
 -- The definitions of specs/Channels.antt by their cases, and the laws of it.
 -- Assumes nothing.
-use mathlib.Core.Path.{_≡_, refl}
+use mathlib.Core.Path.{_≡_, refl, sym}
 use mathlib.Core.Bool.{Bool, true, false, cond}
 use Prim.Native.Nat.{ℕ, _*_, _+_, _<_}
 use native.Mathlib.Omega.{arith}
@@ -18,8 +18,9 @@ use Rattle.registers.specs.RegisterMap.{FWD-CTL1, RAW10-ID, RAW12-ID}
 use Rattle.registers.specs.RegisterFiles.{sharedAt, pageAt}
 use Rattle.hub.specs.declared.Hub.{Hub}
 use Rattle.hub.specs.Routes.{PortRoute, off, output, virtualChannel, portRoute, routeOf}
+use Rattle.hub.proofs.Routes.{route-refused}
 use Rattle.clashes.specs.Channels.{forwards, isForwarded, channelOf, isChannel, leavesBy, leavesOn}
-use Rattle.clashes.specs.Channels.{RouteTo, LeavesOnExact, ChannelSharedExact, OnlyTheseChannels}
+use Rattle.clashes.specs.Channels.{RouteTo, LeavesOnExact, ChannelSharedExact, OnlyThesePorts, OnlyTheseChannels}
 use Rattle.clashes.proofs.TwoPorts.{two-only, two-every}
 
 module _ (csi vc out channel : ℕ) where
@@ -38,6 +39,9 @@ module _ (hub : Hub) (port : ℕ) {reply : Reply PortRoute} (e : reply ≡ route
       → leavesBy format out channel reply ≡ leavesOn hub format out channel port
   unfolding leavesOn
   leaves-by format out channel = rw e
+
+pub only-these-ports : OnlyThesePorts
+only-these-ports hub port h = sym (forwarded-by hub port (sym (route-refused (hub .registers) port h)))
 
 pub leaves-on-exact : LeavesOnExact
 unfolding leavesOn

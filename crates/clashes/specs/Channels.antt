@@ -21,6 +21,10 @@ forwards (given (output csi raw10 raw12)) = true
 unfoldable pub isForwarded : Hub → ℕ → Bool
 isForwarded hub port = forwards (routeOf (hub .registers) port)
 
+-- No port above 3 is forwarded: the four ports that are looked at are all there are.
+abbrev pub OnlyThesePorts : Type 0
+OnlyThesePorts = (hub : Hub) (port : ℕ) → 3 < port → isForwarded hub port ≡ false
+
 -- the channel of a format
 abbrev pub channelOf : Format → ℕ → ℕ → ℕ
 channelOf Raw10 raw10 raw12 = raw10

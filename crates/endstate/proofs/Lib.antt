@@ -9,4 +9,5 @@ pub mod AddressLaws
 pub mod SharedAddresses
 pub mod UnsetLaws
 pub mod WrongLaws
+pub mod NothingWrong
 pub mod Examples
