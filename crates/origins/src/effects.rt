@@ -37,8 +37,9 @@ pub enum Effect {
     },
 }
 
-// Whether a value has bits that are not writable at an offset.
-fn ignores_bits(offset: u8, value: u8) -> bool
+// Whether a value has bits that are not writable at an offset. This is asked of every write, also of one that reaches
+// nothing, whose effect does not say it.
+pub fn ignores_bits(offset: u8, value: u8) -> bool
     ensures { λ r. ⌜ r ≡ ignoresBits offset value ⌝ }
 {
     let mask = map::write_mask(offset);
