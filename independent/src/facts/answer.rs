@@ -5,7 +5,7 @@ use super::findings;
 use super::findings::finding::{Finding, Grade};
 use super::given::{of_script, of_trace, Given};
 use super::order::any_order;
-use super::run::run;
+use super::run::{run, Run};
 use crate::model::convert::Refused;
 
 #[derive(Clone, Debug, PartialEq, Eq)]
@@ -22,15 +22,18 @@ pub struct Answer {
 
 impl Answer {
     pub fn of(given: &Given) -> Result<Answer, Refused> {
-        let run = run(given)?;
-        Ok(Answer {
+        Ok(Answer::of_run(given, &run(given)?))
+    }
+
+    pub fn of_run(given: &Given, run: &Run) -> Answer {
+        Answer {
             hub: given.hub,
             writes: given.writes.len() as u64,
             any_order: any_order(&given.writes),
-            ports: ports(&run),
-            addresses: addresses(&run),
-            findings: findings::all(given, &run),
-        })
+            ports: ports(run),
+            addresses: addresses(run),
+            findings: findings::all(given, run),
+        }
     }
 
     pub fn of_script(address: u8, text: &[u8]) -> Result<Answer, Refused> {

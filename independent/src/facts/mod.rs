@@ -19,6 +19,9 @@ pub mod end_state;
 // Point 5: the findings.
 pub mod findings;
 
+// For the screen of show: the addresses that a later block took away.
+pub mod lost;
+
 // All of it as one object.
 pub mod answer;
 pub mod object;

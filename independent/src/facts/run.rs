@@ -17,6 +17,9 @@ pub struct Step {
     pub effect: Effect,
     /// The origin that the register had on each port before this write; a shared one has none here.
     pub earlier: [Option<Origin>; PORTS],
+    /// What the register held on each port before this write and after it, likewise.
+    pub before: [u8; PORTS],
+    pub after: [u8; PORTS],
 }
 
 pub struct Run {
@@ -43,6 +46,8 @@ pub fn run(given: &Given) -> Result<Run, Refusal> {
             block,
             effect: Effect::of(write, &before, &hub.registers),
             earlier: [0, 1, 2, 3].map(|port| origins.on_port(port, write.offset)),
+            before: [0, 1, 2, 3].map(|port| before.on_port(port, write.offset)),
+            after: [0, 1, 2, 3].map(|port| hub.registers.on_port(port, write.offset)),
         };
         note_origin(&mut origins, &step);
         steps.push(step);
