@@ -11,7 +11,21 @@ use std::fs;
 use std::path::PathBuf;
 use std::time::Duration;
 
-const RIGHT: &str = "shift; exec OWN show --json \"$@\"";
+/// The program's words in those of the independent program; check says its status on descriptor 3.
+const RIGHT: &str = "word=$1; shift
+case $word in
+    json) exec OWN show --json \"$@\" ;;
+    show) exec OWN show \"$@\" ;;
+    check) OWN check \"$@\"; printf $? >&3 ;;
+    check-json) OWN check --json \"$@\"; printf $? >&3 ;;
+esac";
+
+/// A program that does this with what a right one prints for the word.
+fn changed(word: &str, change: &str) -> String {
+    let change = format!("if [ $word = {word} ]; then {change}; else cat; fi");
+    let right = RIGHT.replace("exec ", "");
+    format!("right() {{\n{right}\n}}\nword=$1; right \"$@\" | {change}")
+}
 
 impl TestFolder {
     fn findings(&self, script: &str, count: u64) -> Findings {
@@ -19,44 +33,50 @@ impl TestFolder {
     }
 }
 
-/// What is found in a program that does this with what a right one prints.
-fn found(name: &str, change: &str) -> String {
-    let script = format!("shift; OWN show --json \"$@\" | {change}");
-    let findings = TestFolder::new(name).findings(&script, 400);
+/// What is found in the program.
+fn found(name: &str, script: &str) -> String {
+    let findings = TestFolder::new(name).findings(script, 400);
     findings.difference.map_or("nothing".into(), |it| it.what)
 }
 
 #[test]
 fn a_right_program_passes_and_too_few_cases_do_not() {
-    let findings = TestFolder::new("right-answers").findings(RIGHT, 60);
+    let findings = TestFolder::new("right-answers").findings(RIGHT, 200);
     assert!(findings.difference.is_none());
-    assert_eq!(findings.texts + findings.traces, 60);
+    assert_eq!(findings.texts + findings.traces, 200);
     let summary = ANSWERS.summary(&findings).unwrap_err();
     assert!(summary.contains("raise --count"), "{summary}");
-}
-
-#[test]
-fn a_right_program_reaches_every_point() {
-    let findings = TestFolder::new("all-answers").findings(RIGHT, 1500);
-    assert!(findings.difference.is_none());
-    let summary = ANSWERS.summary(&findings).unwrap();
-    assert!(summary.ends_with("0 differences"), "{summary}");
+    assert_eq!(found("unchanged", &changed("show", "cat")), "nothing");
 }
 
 #[test]
 fn another_word_is_found_and_kept() {
-    let folder = TestFolder::new("another-word");
-    let script = "shift; OWN show --json \"$@\" | sed 's/\"not-followed\"/\"ignored\"/'";
-    let difference = folder.findings(script, 60).difference.unwrap();
-    assert_eq!((difference.number, difference.kind), (0, "sample"));
-    let kept = folder.path.join("kept");
-    let name = difference.keep(&kept, 964).unwrap();
-    assert_eq!(name, "seed-964-case-0");
-    let file = |ending: &str| fs::read(kept.join(format!("{name}.{ending}"))).unwrap();
-    assert_eq!(file("script"), SCRIPTS[0].1);
-    assert_eq!(file("call.txt"), b"json 3D SCRIPT\n");
-    assert_ne!(file("expected.json"), file("actual.json"));
-    assert!(file("stderr.txt").is_empty());
+    for (word, ending) in [
+        ("json", "json"),
+        ("show", "txt"),
+        ("check", "txt"),
+        ("check-json", "json"),
+    ] {
+        let folder = TestFolder::new(&format!("another-{word}"));
+        let script = changed(word, "sed 's/not.follow/ignored/'");
+        let difference = folder.findings(&script, 60).difference.unwrap();
+        assert_eq!((difference.number, difference.kind), (0, "sample"));
+        let kept = folder.path.join("kept");
+        let name = difference.keep(&kept, 964).unwrap();
+        assert_eq!(name, "seed-964-case-0");
+        let file = |ending: &str| fs::read(kept.join(format!("{name}.{ending}"))).unwrap();
+        assert_eq!(file("script"), SCRIPTS[0].1);
+        let call = String::from_utf8(file("call.txt")).unwrap();
+        assert!(
+            call.starts_with(&format!("{word} 3D SCRIPT\nSCRIPT is /")),
+            "{call}"
+        );
+        assert_ne!(
+            file(&format!("expected.{ending}")),
+            file(&format!("actual.{ending}"))
+        );
+        assert!(file("stderr.txt").is_empty());
+    }
 }
 
 #[test]
@@ -77,7 +97,7 @@ fn each_part_of_the_object_is_compared() {
         ("blank", "s/},{\"kind\"/}, {\"kind\"/"),
     ];
     for (name, change) in changes {
-        let what = found(name, &format!("sed '{change}'"));
+        let what = found(name, &changed("json", &format!("sed '{change}'")));
         assert!(what.starts_with("line 1"), "{name}: {what}");
     }
 }
@@ -99,45 +119,78 @@ fn a_finding_left_out_is_found() {
         "no-address",
     ] {
         let change = format!("sed 's/,{{\"kind\":\"{kind}\"[^}}]*}}//'");
-        let what = found(&format!("no-{kind}"), &change);
+        let what = found(&format!("no-{kind}"), &changed("json", &change));
         assert!(what.starts_with("line 1, from byte "), "{kind}: {what}");
+        let change = format!("sed 's/ *\\[{kind}\\]//'");
+        let what = found(&format!("unnamed-{kind}"), &changed("check", &change));
+        assert!(what.contains(&format!("[{kind}]")), "{kind}: {what}");
+    }
+}
+
+#[test]
+fn each_part_of_the_screens_is_compared() {
+    let changes = [
+        ("show", "s/^! /  /"),
+        ("show", "s/nobody any more/nobody/"),
+        (
+            "show",
+            "s/replaced by \\(line\\|record\\)/replaced by the \\1/",
+        ),
+        ("show", "s/, as meant//"),
+        ("show", "s/^  \\*/ */"),
+        ("show", "s/the records matters/the lines matters/"),
+        ("show", "s/standard input/-/"),
+        ("show", "s/ and \\([0-9]*\\) more$//"),
+        ("show", "/^      a read /d"),
+        ("check", "s/ would\\./ will./"),
+        ("check", "s/^and [0-9]* more$/and more/"),
+        ("check", "s/ too, as / too as /"),
+        ("check", "s/has that channel/has this channel/"),
+        ("check", "s/; for address .*//"),
+        ("check", "s/\\\\x0d$//"),
+        ("check", "s/^     \\([0-9]\\)  /    \\1   /"),
+        ("check", "/^Shared as meant/d"),
+        ("check", "$d"),
+    ];
+    for (place, (word, change)) in changes.into_iter().enumerate() {
+        let name = format!("screen-{place}");
+        let what = found(&name, &changed(word, &format!("sed '{change}'")));
+        assert!(what.starts_with("line "), "{word} {change}: {what}");
     }
 }
 
 #[test]
 fn another_refusal_and_a_missing_line_feed_are_found() {
-    let what = found("refusal", "sed 's/! 13$/! 12/'");
-    assert_eq!(
-        what, "line 1 should be \"! 13\\n\" and is \"! 12\\n\"",
-        "the empty trace"
-    );
-    let what = found("no-line-feed", "tr -d '\\n'");
+    for word in ["json", "show", "check"] {
+        let what = found("refusal", &changed(word, "sed 's/! 13$/! 12/'"));
+        let right = "line 1 should be \"! 13\\n\" and is \"! 12\\n\"";
+        assert_eq!(what, right, "the empty trace");
+    }
+    let what = found("no-line-feed", &changed("json", "tr -d '\\n'"));
     assert!(what.ends_with("]}\""), "{what}");
 }
 
 #[test]
-fn wrong_streams_are_found() {
-    let of = |name, script: &str| {
-        let findings = TestFolder::new(name).findings(script, 60);
-        findings.difference.map_or("nothing".into(), |it| it.what)
-    };
-    let what = of(
-        "answer-words",
-        "shift; echo hm >&2; exec OWN show --json \"$@\"",
-    );
+fn wrong_streams_and_statuses_are_found() {
+    let what = found("answer-words", &format!("echo hm >&2\n{RIGHT}"));
     assert_eq!(what, "its standard error is not empty: \"hm\"");
-    let what = of("answer-status", "shift; OWN show --json \"$@\"; exit 3");
+    let after = changed("json", "cat; exit 3");
+    let what = found("answer-status", &after);
     assert!(what.contains("exit status: 3"), "{what}");
-    let what = of(
-        "answer-silent",
-        "shift; exec OWN show --json \"$@\" 2>/dev/null",
-    );
+    let what = found("answer-silent", &format!("exec 2>/dev/null\n{RIGHT}"));
     assert!(
         what.contains("standard error") && what.ends_with("missing"),
         "{what}"
     );
-    let any_status_of_a_refusal = "shift; OWN show --json \"$@\" || exit 0";
-    assert_eq!(of("answer-refused", any_status_of_a_refusal), "nothing");
+    let other = RIGHT.replacen("printf $?", "printf 0", 1);
+    let what = found("answer-said", &other);
+    let right = "its status on descriptor 3 should be \"2\" and is \"0\"";
+    assert!(what == right || what == right.replace('2', "1"), "{what}");
+    let what = found("answer-unsaid", &RIGHT.replace("printf $? >&3", "true"));
+    assert_eq!(
+        what,
+        "its status on descriptor 3 should be \"0\" and is \"\""
+    );
 }
 
 #[test]

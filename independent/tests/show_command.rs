@@ -16,6 +16,12 @@ fn call(arguments: &[&str]) -> (String, bool, i32) {
     (text, !output.stderr.is_empty(), status)
 }
 
+/// A stored screen.
+fn screen(file: &str) -> String {
+    let root = Path::new(env!("CARGO_MANIFEST_DIR")).join("..");
+    std::fs::read_to_string(root.join(file)).unwrap()
+}
+
 #[test]
 fn both_commands_print_the_same_object() {
     let (right, wrong) = ("samples/weighbridge.script", "samples/wrong_page.script");
@@ -23,7 +29,6 @@ fn both_commands_print_the_same_object() {
     assert!(shown.0.starts_with("{\"hub\":\"3D\",\"writes\":21,") && shown.0.ends_with("]}\n"));
     assert_eq!((shown.1, shown.2), (false, 0));
     assert_eq!(call(&["check", "--json", "3d", right]), shown);
-    assert_eq!(call(&["show", "3D", right]), shown);
     let shown = call(&["show", "--json", "3D", wrong]);
     assert_eq!((shown.1, shown.2), (false, 0));
     let checked = call(&["check", "--json", "3D", wrong]);
@@ -31,8 +36,28 @@ fn both_commands_print_the_same_object() {
     let trace = call(&["show", "--json", "samples/wrong_page.trace"]);
     assert!(trace.0.contains("\"lines\":[7,12]"));
     assert_eq!((trace.1, trace.2), (false, 0));
-    let checked = call(&["check", "samples/wrong_page.trace"]);
+    let checked = call(&["check", "--json", "samples/wrong_page.trace"]);
     assert_eq!((checked.0, checked.1, checked.2), (trace.0, false, 1));
+}
+
+#[test]
+fn each_command_prints_its_screen() {
+    let (right, wrong) = ("samples/weighbridge", "samples/wrong_page");
+    for (command, name, status) in [
+        ("show", right, 0),
+        ("check", right, 0),
+        ("show", wrong, 0),
+        ("check", wrong, 1),
+    ] {
+        let printed = call(&[command, "3D", &format!("{name}.script")]);
+        let stored = screen(&format!("{name}.{command}.txt"));
+        assert_eq!(printed, (stored, false, status), "{command} {name}");
+    }
+    for (command, status) in [("show", 0), ("check", 1)] {
+        let printed = call(&[command, "samples/wrong_page.trace"]);
+        let stored = screen(&format!("samples/wrong_page.trace.{command}.txt"));
+        assert_eq!(printed, (stored, false, status), "{command}");
+    }
 }
 
 #[test]

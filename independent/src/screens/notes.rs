@@ -8,6 +8,7 @@ use super::Subject;
 use crate::facts::findings::at_writes::odd_alias;
 use crate::facts::findings::finding::{Finding, Kind};
 use crate::model::registers::FPD3_PORT_SEL;
+use std::collections::BTreeSet;
 
 /// "Of `odd-alias` each of the first ten is explained".
 const MOST_EXPLAINED: usize = 10;
@@ -74,22 +75,19 @@ fn print_numbers(
 /// "selections of a port that was selected before whose block replaced nothing (`port-twice`; counted
 /// are selections, not ports)"
 fn print_selections(page: &mut Page, subject: &Subject) {
-    let blocks: Vec<u64> = things(subject)
-        .iter()
-        .filter_map(|thing| match thing {
-            Thing::Block(steps) => Some(steps[0].block),
-            Thing::Other(_) => None,
-        })
+    let things = things(subject);
+    let blocks = things.iter().filter_map(|thing| match thing {
+        Thing::Block(steps) => Some(steps[0].block),
+        Thing::Other(_) => None,
+    });
+    let blocks: BTreeSet<u64> = blocks.collect();
+    let twice: BTreeSet<u64> = subject.numbers(Kind::PortTwice).into_iter().collect();
+    let steps = subject.run.steps.iter();
+    let selections: Vec<u64> = steps
+        .filter(|step| step.write.offset == FPD3_PORT_SEL && !blocks.contains(&step.block))
+        .map(|step| step.write.number)
+        .filter(|number| twice.contains(number))
         .collect();
-    let replaced_nothing = |number: &u64| {
-        let mut steps = subject.run.steps.iter();
-        let selection =
-            steps.find(|step| step.write.number == *number && step.write.offset == FPD3_PORT_SEL);
-        selection.is_some_and(|step| !blocks.contains(&step.block))
-    };
-    let mut selections = subject.numbers(Kind::PortTwice);
-    selections.dedup(); // one finding a port
-    selections.retain(replaced_nothing);
     let one = "selection of a port that was selected before";
     let several = "selections of ports that were selected before";
     print_numbers(page, subject, Kind::PortTwice, &selections, one, several);

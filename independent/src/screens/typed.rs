@@ -3,15 +3,20 @@
 use super::page::Page;
 use super::Subject;
 
-/// "a tab as a space and other control characters as `\x1b`"
+/// "a tab as a space and other control characters as `\x1b`": those of one byte, and of those of two,
+/// C2 and 80 to 9F, the second.
 pub fn shown(bytes: &[u8]) -> Vec<u8> {
     let mut shown = Vec::new();
+    let mut before = 0;
     for &byte in bytes {
-        match byte {
-            b'\t' => shown.push(b' '),
-            0x00..=0x1F | 0x7F => shown.extend(format!("\\x{byte:02x}").bytes()),
+        match (before, byte) {
+            (_, b'\t') => shown.push(b' '),
+            (_, 0x00..=0x1F | 0x7F) | (0xC2, 0x80..=0x9F) => {
+                shown.extend(format!("\\x{byte:02x}").bytes());
+            }
             _ => shown.push(byte),
         }
+        before = byte;
     }
     shown
 }

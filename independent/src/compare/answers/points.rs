@@ -1,16 +1,12 @@
 //! The points that a comparison of answers must reach.
 
-use super::{clash_points, order_points, write_points};
+use super::right::Word;
+use super::{clash_points, order_points, record_points, screen_points, write_points};
 use crate::compare::coverage::Coverage;
-use crate::facts::answer::Answer;
 use crate::facts::findings::finding::{Finding, Grade, Kind};
-use crate::facts::given::{of_script, of_trace, Given};
-use crate::facts::run::run;
-use crate::generate::answers::Job;
-use crate::model::answer::Answer as Played;
+use crate::generate::answers::{Case, Job};
 use crate::model::convert::Refused;
-use crate::model::player::Player;
-use crate::model::trace::{Record, RecordReader};
+use crate::screens::Subject;
 
 pub const POINTS: &[&str] = &joined::<
     {
@@ -18,6 +14,7 @@ pub const POINTS: &[&str] = &joined::<
             + order_points::POINTS.len()
             + write_points::POINTS.len()
             + clash_points::POINTS.len()
+            + screen_points::POINTS.len()
     },
 >();
 
@@ -27,6 +24,7 @@ const fn joined<const COUNT: usize>() -> [&'static str; COUNT] {
         order_points::POINTS,
         write_points::POINTS,
         clash_points::POINTS,
+        screen_points::POINTS,
     ];
     let mut all = [""; COUNT];
     let (mut part, mut inside, mut place) = (0, 0, 0);
@@ -94,31 +92,41 @@ const HERE: &[&str] = &[
     "a trace: no-address",
 ];
 
-pub fn note(coverage: &mut Coverage, job: &Job, answer: &Result<Answer, Refused>) {
-    let (form, size, given) = match job {
-        Job::Script { address, text } => ("script", text.len(), of_script(*address, text)),
-        Job::Trace { trace } => ("trace", trace.len(), of_trace(trace)),
+/// What the case reaches where it is compared with these calls.
+pub fn note(
+    coverage: &mut Coverage,
+    case: &Case,
+    subject: &Result<Subject, Refused>,
+    words: &[Word],
+) {
+    let form = match &case.job {
+        Job::Script { .. } => "script",
+        Job::Trace { trace } => {
+            record_points::note(coverage, trace, subject.is_err());
+            "trace"
+        }
     };
-    if let Job::Trace { trace } = job {
-        note_records(coverage, trace, answer.is_err());
-    }
-    let no_bytes = if size == 0 { " of no bytes" } else { "" };
-    match (given, answer) {
-        (Ok(given), Ok(answer)) => {
+    let no_bytes = match case.job.bytes() {
+        [] => " of no bytes",
+        _ => "",
+    };
+    match subject {
+        Ok(subject) => {
             coverage.note(&format!("a {form} taken"));
             coverage.note(&format!("a {form}{no_bytes}"));
-            note_answer(coverage, form, &given, answer);
+            note_taken(coverage, form, subject);
+            screen_points::note(coverage, subject, words);
         }
-        (_, Err(refused)) => {
+        Err(refused) => {
             let number = refused.refusal.number();
             coverage.note(&format!("a {form} refused {number}"));
             coverage.note(&format!("a {form}{no_bytes} refused {number}"));
         }
-        _ => {}
     }
 }
 
-fn note_answer(coverage: &mut Coverage, form: &str, given: &Given, answer: &Answer) {
+fn note_taken(coverage: &mut Coverage, form: &str, subject: &Subject) {
+    let (given, run, answer) = (&subject.given, &subject.run, &subject.answer);
     if given.writes.is_empty() {
         coverage.note(&format!("a {form} without a write"));
     }
@@ -143,46 +151,7 @@ fn note_answer(coverage: &mut Coverage, form: &str, given: &Given, answer: &Answ
         _ if all(Grade::Meant) => coverage.note("nothing but meant"),
         _ => {}
     }
-    if let Ok(run) = run(given) {
-        order_points::note(coverage, given, &run);
-        write_points::note(coverage, &run, &answer.findings);
-        clash_points::note(coverage, &run, answer);
-    }
-}
-
-fn note_records(coverage: &mut Coverage, trace: &[u8], refused: bool) {
-    let mut reader = RecordReader::new(trace);
-    let mut player = Player::default();
-    let (mut records, mut writes) = (0, 0);
-    while let Ok(Some(Ok(record))) = reader.next_record() {
-        records += 1;
-        let answer = player.answer(&record);
-        match record {
-            Record::HubAddress { .. } => {}
-            Record::Write { offset, values } => {
-                writes += 1;
-                note_burst(coverage, offset, values.len());
-            }
-            _ => coverage.note("a trace with records that change no register"),
-        }
-        if records > 1 && matches!(answer, Played::Refused(_)) {
-            coverage.note("a trace with a refused question or frame");
-        }
-    }
-    if refused && writes > 0 {
-        coverage.note("a trace refused 13 after writes");
-    }
-    if !refused && records == 1 {
-        coverage.note("a trace of the hub record alone");
-    }
-}
-
-fn note_burst(coverage: &mut Coverage, first: u8, count: usize) {
-    if usize::from(first) + count > 256 {
-        coverage.note("a burst over FF to 00");
-    }
-    let place = usize::from(0x4Cu8.wrapping_sub(first));
-    if place > 0 && place + 1 < count {
-        coverage.note("a burst over 4C");
-    }
+    order_points::note(coverage, given, run);
+    write_points::note(coverage, run, &answer.findings);
+    clash_points::note(coverage, run, answer);
 }

@@ -5,6 +5,7 @@ use crate::facts::effect::Did;
 use crate::facts::findings::finding::{About, Finding, Kind};
 use crate::facts::run::{Run, Step};
 use crate::model::registers::{FPD3_PORT_SEL, PORTS, SER_ALIAS_ID};
+use std::collections::BTreeSet;
 
 pub const POINTS: &[&str] = &[
     "replaced on several ports by one write",
@@ -35,38 +36,48 @@ pub const POINTS: &[&str] = &[
 ];
 
 pub fn note(coverage: &mut Coverage, run: &Run, findings: &[Finding]) {
+    let selections = run
+        .steps
+        .iter()
+        .filter(|it| it.write.offset == FPD3_PORT_SEL);
+    let selections: Vec<u64> = selections.map(|it| it.write.number).collect();
     for step in &run.steps {
-        note_replaced(coverage, run, step);
+        note_replaced(coverage, &selections, step);
         note_no_port(coverage, step);
     }
+    let kept = found(findings, |it| it.kind == Kind::NoChange);
     for finding in findings {
-        note_finding(coverage, finding, findings);
+        note_finding(coverage, finding, &kept);
     }
-    let at_writes = findings
-        .iter()
-        .filter(|it| matches!(it.about, About::Register(_)));
-    let lines: Vec<u64> = at_writes
-        .filter_map(|it| it.lines.last().copied())
-        .collect();
+    let at_writes = found(findings, |_| true);
+    let at_writes: BTreeSet<u64> = at_writes.iter().map(|it| it.0).collect();
     for (place, step) in run.steps.iter().enumerate().skip(1) {
         let number = step.write.number;
-        if run.steps[place - 1].write.number == number && lines.contains(&number) {
+        if run.steps[place - 1].write.number == number && at_writes.contains(&number) {
             coverage.note("a burst of several findings");
             break;
         }
     }
+    let odd = found(findings, |it| it.kind == Kind::OddAlias);
     for step in run.steps.iter().filter(|step| step.write.value == 1) {
-        let name = Kind::OddAlias;
-        if findings
-            .iter()
-            .any(|it| it.kind == name && it.lines == [step.write.number])
-        {
+        if odd.contains(&(step.write.number, step.write.offset)) {
             coverage.note("odd-alias 01");
         }
     }
 }
 
-fn note_replaced(coverage: &mut Coverage, run: &Run, step: &Step) {
+/// The writes at which such a finding is found: their numbers and registers.
+fn found(findings: &[Finding], is_such: impl Fn(&Finding) -> bool) -> BTreeSet<(u64, u8)> {
+    let such = findings.iter().filter(|it| is_such(it));
+    such.filter_map(|it| match it.about {
+        About::Register(offset) => it.lines.last().map(|&line| (line, offset)),
+        _ => None,
+    })
+    .collect()
+}
+
+/// With the numbers of the writes that begin the blocks.
+fn note_replaced(coverage: &mut Coverage, selections: &[u64], step: &Step) {
     let mut origins = Vec::new();
     let changed = step.effect.changed_ports();
     for port in 0..PORTS as u8 {
@@ -88,9 +99,7 @@ fn note_replaced(coverage: &mut Coverage, run: &Run, step: &Step) {
         if origin.block + 1 < step.block {
             coverage.note("replaced after a block between");
         }
-        let begins = |it: &&Step| it.block == step.block && it.write.offset == FPD3_PORT_SEL;
-        let selection = run.steps.iter().find(begins);
-        if selection.is_some_and(|it| it.write.number == origin.number) {
+        if selections[step.block as usize - 1] == origin.number {
             coverage.note("replaced where the origin's record began the block");
         }
     }
@@ -122,7 +131,7 @@ fn note_no_port(coverage: &mut Coverage, step: &Step) {
     }
 }
 
-fn note_finding(coverage: &mut Coverage, finding: &Finding, findings: &[Finding]) {
+fn note_finding(coverage: &mut Coverage, finding: &Finding, kept: &BTreeSet<(u64, u8)>) {
     let kind = finding.kind.name();
     let About::Register(offset) = finding.about else {
         return;
@@ -141,9 +150,7 @@ fn note_finding(coverage: &mut Coverage, finding: &Finding, findings: &[Finding]
         });
     }
     let is_interesting = matches!(finding.kind, Kind::BitsIgnored | Kind::OddAlias);
-    let same = |it: &Finding| it.lines == finding.lines && it.about == finding.about;
-    let kept = |it: &Finding| it.kind == Kind::NoChange && same(it);
-    if is_interesting && findings.iter().any(kept) {
+    if is_interesting && kept.contains(&(finding.lines[0], offset)) {
         coverage.note(&format!("{kind} without a change"));
     }
 }

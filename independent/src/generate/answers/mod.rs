@@ -3,6 +3,7 @@
 mod bursts;
 mod forms;
 mod kinds;
+mod names;
 mod setups;
 mod slips;
 
@@ -14,6 +15,7 @@ use super::{scheduled, scripts, traces, values};
 use crate::model::trace_builder::TraceBuilder;
 use kinds::SCHEDULE;
 use setups::Writes;
+use std::path::{Path, PathBuf};
 
 /// What the program is asked about.
 #[derive(Clone, Debug, PartialEq, Eq)]
@@ -22,10 +24,32 @@ pub enum Job {
     Trace { trace: Vec<u8> },
 }
 
+impl Job {
+    /// What stands in its file.
+    pub fn bytes(&self) -> &[u8] {
+        match self {
+            Job::Script { text, .. } => text,
+            Job::Trace { trace } => trace,
+        }
+    }
+}
+
 #[derive(Clone, Debug, PartialEq, Eq)]
 pub struct Case {
     pub kind: Kind,
     pub job: Job,
+    /// The name of its file; - is standard input.
+    pub name: String,
+}
+
+impl Case {
+    /// Its file in a folder, as the program is given it.
+    pub fn file(&self, folder: &Path) -> PathBuf {
+        match &self.name[..] {
+            "-" => PathBuf::from("-"),
+            name => folder.join(name),
+        }
+    }
 }
 
 /// The samples with a script of their own.
@@ -58,7 +82,8 @@ pub fn numbered(seed: u64, number: u64) -> Case {
         },
         _ => written(kind, &mut rng),
     };
-    Case { kind, job }
+    let name = names::name(number);
+    Case { kind, job, name }
 }
 
 fn sample(turn: usize) -> Job {
