@@ -1,5 +1,5 @@
-//! docs/SHOW.md held to the program: its example is the sample's object, and its table has the kinds
-//! with their grades and fields.
+//! docs/SHOW.md held to the program: its examples are the sample's screens and object, and its table
+//! has the kinds with their grades and fields.
 
 use independent::compare::json::is_json;
 use independent::facts::answer::Answer;
@@ -13,6 +13,15 @@ use std::path::Path;
 fn text(file: &str) -> String {
     let root = Path::new(env!("CARGO_MANIFEST_DIR")).join("..");
     fs::read_to_string(root.join(file)).unwrap()
+}
+
+#[test]
+fn the_screens_are_the_stored_ones() {
+    let page = text("docs/SHOW.md");
+    for command in ["show", "check"] {
+        let screen = text(&format!("samples/wrong_page.{command}.txt"));
+        assert!(page.contains(&format!("```\n{screen}```\n")), "{command}");
+    }
 }
 
 #[test]
