@@ -146,7 +146,7 @@ fn typed_lines_are_shown_without_control_characters() {
 fn only_so_many_things_and_odd_aliases_are_told() {
     let [_, checked] = screens(&script(&[(0x58, 0x01); 23]));
     let last = checked.iter().rposition(|line| line.starts_with("20 "));
-    assert_eq!(checked[last.unwrap() + 3..], ["and 3 more"]);
+    assert_eq!(checked[last.unwrap() + 3..], ["and 3 more like these"]);
     let mut odd = vec![(0x4C, 0x01), (0x5C, 0x7F), (0x65, 0x81)];
     odd.extend([(0x66, 0x03); 9]);
     let [_, checked] = screens(&script(&odd));

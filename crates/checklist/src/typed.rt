@@ -10,10 +10,11 @@ pub struct File {
     pub is_trace: bool,
 }
 
-// How far the file is looked through: the number of the line that the next byte is of, the byte before it where it was
-// written, 0 at first, and whether nothing is left to look for.
+// How far the file is looked through: the number of the line that the next byte is of, whether some of the line was
+// written, the byte before where it was, and whether nothing is left to look for.
 struct Search {
     line: u64,
+    begun: bool,
     before: u8,
     over: bool,
     pen: Pen,
@@ -22,12 +23,13 @@ struct Search {
 // Writes a byte of the line; blanks at its start are left out.
 fn write_byte(search: Search, byte: u8) -> Search {
     let is_blank = byte == b' ' || byte == b'\t';
-    if search.before == 0 && is_blank {
+    if is_blank && !search.begun {
         return search;
     }
     let pen = shown::byte(search.pen, search.before, byte);
     Search {
         line: search.line,
+        begun: true,
         before: byte,
         over: search.over,
         pen,
@@ -43,6 +45,7 @@ fn take_byte(search: Search, byte: u8, number: u64) -> Search {
         let pen = search.pen;
         return Search {
             line: wrapping_add_u64(search.line, 1),
+            begun: false,
             before: 0,
             over: search.line == number,
             pen,
@@ -66,6 +69,7 @@ fn take_bytes(search: Search, piece: &[u8], number: u64) -> Search {
 fn ended(search: Search, pen: Pen) -> Search {
     Search {
         line: search.line,
+        begun: search.begun,
         before: search.before,
         over: true,
         pen,
@@ -91,6 +95,7 @@ fn look_on(fd: i32, search: Search, number: u64) -> Search {
 fn find_and_write(pen: Pen, fd: i32, number: u64) -> Pen {
     let mut search = Search {
         line: 1,
+        begun: false,
         before: 0,
         over: false,
         pen,

@@ -7,7 +7,6 @@ use findings::by_effect;
 use findings::on_order;
 use findings::replaced;
 use findings::replaced::Replacement;
-use hub::Hub;
 use ordering::inside::Extent;
 use ordering::ticks::LastTick;
 use origins::effects::Effect;
@@ -17,9 +16,9 @@ use registers::map;
 use words::kinds::Kind;
 
 // The write; the ports whose register it reaches; for each port the origin of its register where that is replaced, the
-// earlier selection where the port is ticked again, what its register held before, and where that is an alias by which a
-// device of the port heard an address, and it gets another, the origin of the alias, 0 for none; and whether there is a
-// finding of each other kind.
+// earlier selection where the port is ticked again, what its register held before, and where that is an alias whose
+// address no device of the port hears any more, the origin of the alias, 0 for none; and whether there is a finding of
+// each other kind.
 pub(crate) struct Found {
     pub write: Write,
     pub reached: u8,
@@ -60,25 +59,42 @@ fn old_on(known: WritesSoFar, offset: u8, port: u8) -> u8 {
     registers::read(numbers.registers, PageAccess::Port(port), offset)
 }
 
-// The hub at a write.
-fn hub_at(known: WritesSoFar, address: u8) -> Hub {
+// Whether the port hears an address before the write, and not after it.
+fn loses(known: WritesSoFar, address: u8, write: Write, port: u8, heard: u8) -> bool {
     let numbers = known.numbers;
-    facts::hub_with(address, numbers.registers)
+    let before = facts::hub_with(address, numbers.registers);
+    if !addresses::address_reaches(before, heard, port) {
+        return false;
+    }
+    let mut after = before;
+    let registers = registers::write(
+        numbers.registers,
+        PageAccess::Selection,
+        write.offset,
+        write.value,
+    );
+    after.registers = registers;
+    !addresses::address_reaches(after, heard, port)
 }
 
-// The origin of a port's alias that gets another address, where a device of the port hears the one that it has.
-fn lost_on(known: WritesSoFar, address: u8, effect: Effect, offset: u8, port: u8) -> u64 {
-    if !by_effect::is_alias_register(offset) {
+// The origin of a port's alias, where the port heard its address and does not hear it after the write.
+fn lost_on(known: WritesSoFar, address: u8, effect: Effect, write: Write, port: u8) -> u64 {
+    if !by_effect::is_alias_register(write.offset) {
         return 0;
     }
     if !by_effect::changes_port(effect, port) {
         return 0;
     }
-    let heard = old_on(known, offset, port) / 2;
-    if !addresses::address_reaches(hub_at(known, address), heard, port) {
+    if !loses(
+        known,
+        address,
+        write,
+        port,
+        old_on(known, write.offset, port) / 2,
+    ) {
         return 0;
     }
-    origins::port_origin(known.numbers, port, offset)
+    origins::port_origin(known.numbers, port, write.offset)
 }
 
 // What is found at the write that comes next, on a hub with that address.
@@ -108,10 +124,10 @@ pub(crate) fn at(known: WritesSoFar, address: u8, whole: Extent, write: Write) -
             old_on(known, offset, 3),
         ],
         lost: [
-            lost_on(known, address, effect, offset, 0),
-            lost_on(known, address, effect, offset, 1),
-            lost_on(known, address, effect, offset, 2),
-            lost_on(known, address, effect, offset, 3),
+            lost_on(known, address, effect, write, 0),
+            lost_on(known, address, effect, write, 1),
+            lost_on(known, address, effect, write, 2),
+            lost_on(known, address, effect, write, 3),
         ],
         no_port: by_effect::is_no_port(effect),
         shared_in_block: on_order::shared_in_block(known, whole, offset),

@@ -41,7 +41,7 @@ fn select(told: Told, found: Found) -> Told {
     next
 }
 
-// The address that a device of a port heard by an alias that gets another, with the origin of the alias, 0 for none.
+// The address of an alias that a port does not hear any more, with the origin of the alias, 0 for none.
 fn lose(lost: Lost, found: Found, port: u8) -> Lost {
     let mut next = lost;
     let set = found::lost_at(found, port);

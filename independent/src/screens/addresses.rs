@@ -58,7 +58,7 @@ fn print_devices(page: &mut Page, subject: &Subject, address: u8) {
     let wrong = subject.findings(Kind::SameAddress).any(shared);
     let devices = devices(&subject.run, address);
     for (place, it) in devices.iter().enumerate() {
-        let (who, set_by) = (device(it), set_by(subject, it));
+        let (who, set_by) = (named(subject, it), set_by(subject, it));
         page.line(match place {
             0 => row(address, wrong, &who, &set_by),
             _ => below(String::new(), &who, &set_by),
@@ -67,6 +67,13 @@ fn print_devices(page: &mut Page, subject: &Subject, address: u8) {
     if devices.len() > 1 {
         page.line(below(String::new(), &read(subject, address), ""));
     }
+}
+
+/// "with its address on its own bus and ` (not set)` after it where no line sets that"
+fn named(subject: &Subject, it: &Device) -> String {
+    let (_, own) = registers_of(it.role);
+    let set = subject.run.origins.on_port(it.port, own).is_some();
+    device(it) + if set { "" } else { " (not set)" }
 }
 
 /// "the lines of its pass-through, alias and remote address"
@@ -91,7 +98,11 @@ fn read(subject: &Subject, address: u8) -> String {
 
 fn lost_row(subject: &Subject, address: u8, lost: &Lost) -> String {
     let noun = subject.noun();
-    let Lost { set, replaced } = lost;
-    let set_by = format!("{noun} {set}, replaced by {noun} {replaced}");
-    row(address, true, "nobody any more", &set_by)
+    let Lost {
+        set,
+        changed,
+        is_replaced,
+    } = lost;
+    let set_by = format!("{noun} {set}, replaced by {noun} {changed}");
+    row(address, *is_replaced, "nobody any more", &set_by)
 }

@@ -1,8 +1,8 @@
 //! The part of show's screen on what is shared, and the lines of check's screen that are meant.
 
-use super::names::clash;
+use super::names::{capital, clash};
 use super::page::{mark, Page};
-use super::things::named;
+use super::things::{named, print_lines};
 use super::Subject;
 use crate::facts::findings::finding::{Finding, Grade, Kind};
 
@@ -23,12 +23,13 @@ pub fn print(page: &mut Page, subject: &Subject) {
     page.line("Clashes");
     for finding in clashes {
         let wrong = finding.grade == Grade::Wrong;
-        let meant = if wrong { "" } else { ", as meant" };
+        let meant = if wrong { "" } else { ", perhaps meant" };
         page.line(format!("{}{}{meant}", mark(wrong), clash(finding)));
     }
 }
 
-/// "Under this heading, where there are some, the `same-channel` and `same-address` that are meant."
+/// "Under this heading, where there are some, the `same-channel` and `same-address` that are meant,
+/// with their lines."
 pub fn print_meant(page: &mut Page, subject: &Subject) {
     let clashes = clashes(subject).into_iter();
     let meant: Vec<&Finding> = clashes.filter(|it| it.grade == Grade::Meant).collect();
@@ -36,8 +37,10 @@ pub fn print_meant(page: &mut Page, subject: &Subject) {
         return;
     }
     page.empty_line();
-    page.line("Shared as meant");
+    page.line("Shared, perhaps as meant");
     for finding in meant {
-        page.line(named(format!("  {}", clash(finding)), finding.kind));
+        let clash = capital(&clash(finding));
+        page.line(named(format!("  {clash}"), finding.kind));
+        print_lines(page, subject, finding);
     }
 }

@@ -19,7 +19,12 @@ pub fn first_line(subject: &Subject) -> Vec<u8> {
 /// How many things look wrong, or that nothing does.
 pub fn verdict(subject: &Subject) -> String {
     match things(subject).len() {
-        0 if subject.nothing_was_set() => "Nothing was set: the hub is as it starts.".into(),
+        0 if subject.given.writes.is_empty() => {
+            "There is no register write: is this the right file?".into()
+        }
+        0 if subject.nothing_was_set() => {
+            "Nothing that this model follows was set up: there is nothing to judge.".into()
+        }
         0 if subject.findings(Kind::NotFollowed).next().is_some() => {
             "Nothing looks wrong in what this model follows.".into()
         }

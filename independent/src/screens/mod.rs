@@ -24,6 +24,7 @@ use crate::facts::findings::finding::{Finding, Kind};
 use crate::facts::given::{of_script, of_trace, Given};
 use crate::facts::run::{run, Run};
 use crate::model::convert::{pieces, Refused};
+use crate::model::registers::FPD3_PORT_SEL;
 
 /// What a screen is about: the file's name as it was typed, and the facts.
 pub struct Subject<'a> {
@@ -79,10 +80,16 @@ impl<'a> Subject<'a> {
         self.findings(kind).filter_map(last).collect()
     }
 
-    /// "the two are all writes there are", or there are none.
+    /// How many writes select ports.
+    fn selections(&self) -> usize {
+        let writes = self.given.writes.iter();
+        writes.filter(|write| write.offset == FPD3_PORT_SEL).count()
+    }
+
+    /// "these two and the writes to 4C are all there are"
     fn nothing_was_set(&self) -> bool {
         let without =
             self.findings(Kind::NotFollowed).count() + self.findings(Kind::NoPort).count();
-        without == self.given.writes.len()
+        without + self.selections() == self.given.writes.len()
     }
 }

@@ -117,10 +117,11 @@ fn print_odd(page: &mut Page, subject: &Subject) {
 
 /// "without the second half where the value has no address of 7 bits, that is above 7F"
 fn explained(noun: &str, number: u64, value: u8) -> String {
-    let means = format!(
-        "    {noun} {number}: 0x{value:02X} means address {:02X}",
-        value >> 1
-    );
+    let meaning = match value >> 1 {
+        0 => "off".into(),
+        address => format!("address {address:02X}"),
+    };
+    let means = format!("    {noun} {number}: 0x{value:02X} means {meaning}");
     match value {
         0x00..=0x7F => format!(
             "{means}; for address {value:02X} write 0x{:02X}",

@@ -30,7 +30,8 @@ pub fn print(page: &mut Page, subject: &Subject) {
 fn row(subject: &Subject, port: &PortEnd) -> String {
     let shares =
         |finding: &Finding| finding.grade == Grade::Wrong && finding.ports.contains(&port.port);
-    let wrong = subject.findings(Kind::SameChannel).any(shares);
+    let wrong = subject.findings(Kind::SameChannel).any(shares)
+        || subject.findings(Kind::NotSetUp).any(shares);
     let start = format!("{}port {}", mark(wrong), port.port);
     let set = |what: String, line: Option<u64>| match line {
         Some(line) => format!("{what} ({} {line})", subject.noun()),

@@ -12,7 +12,8 @@ use crate::model::registers::{
 };
 
 /// "its selection and the earlier one of the port, then each replaced register in the order of the
-/// writes, and at one write of the ports"
+/// writes, and at one write of the ports"; the ports "that it selects again and of which it replaces
+/// nothing" last
 pub fn print(page: &mut Page, subject: &Subject, number: usize, steps: &[&Step]) {
     let selection = selection(subject, steps[0].block);
     let mut told = Vec::new();
@@ -30,6 +31,13 @@ pub fn print(page: &mut Page, subject: &Subject, number: usize, steps: &[&Step])
             for line in finding.lines {
                 subject.print_typed(page, line);
             }
+        }
+    }
+    let twice = subject.findings(Kind::PortTwice);
+    let here = twice.filter(|it| it.lines.last() == Some(&selection));
+    for port in here.map(|it| it.ports[0]) {
+        if !told.contains(&port) {
+            print_selection(page, subject, None, selection, port);
         }
     }
 }
@@ -76,9 +84,9 @@ fn what(step: &Step, port: usize) -> String {
     let named = match offset {
         BCC_CONFIG => switched(before, after),
         SER_ID => renamed("the serializer's own address", addresses),
-        SER_ALIAS_ID => renamed("the serializer's address", addresses),
+        SER_ALIAS_ID => moved("the serializer's address", addresses),
         0x5D..=0x64 => renamed("a camera's own address", addresses),
-        0x65..=0x6C => renamed("address", addresses),
+        0x65..=0x6C => moved("address", addresses),
         RAW10_ID => identified(Pictures::Raw10, before, after),
         RAW12_ID => identified(Pictures::Raw12, before, after),
         _ => None,
@@ -92,6 +100,15 @@ fn switched(before: u8, after: u8) -> Option<String> {
         (0, 1) => Some("pass-through off by on".into()),
         _ => None,
     }
+}
+
+/// "and `off` for a 0 of 5C and of 65 to 6C"
+fn moved(what: &str, (before, after): (u8, u8)) -> Option<String> {
+    let name = |address: u8| match address {
+        0 => "off".into(),
+        _ => format!("{address:02X}"),
+    };
+    (before != after).then(|| format!("{what} {} by {}", name(before), name(after)))
 }
 
 fn renamed(what: &str, (before, after): (u8, u8)) -> Option<String> {

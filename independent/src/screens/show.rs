@@ -6,7 +6,6 @@ use super::page::Page;
 use super::things::things;
 use super::{addresses, clashes, numbers, pictures, Subject};
 use crate::facts::findings::finding::Kind;
-use crate::model::registers::FPD3_PORT_SEL;
 
 pub fn show(subject: &Subject) -> Vec<u8> {
     let mut page = Page::default();
@@ -36,7 +35,7 @@ fn second_line(subject: &Subject) -> String {
     }
     let mut line = counted(writes, "register write", "register writes");
     if subject.nothing_was_set() {
-        return line + ", and none of them sets a register: the hub is as it starts";
+        return line + ", and none sets up anything that this model follows";
     }
     let unfollowed = subject.findings(Kind::NotFollowed).count();
     let no_port = subject.findings(Kind::NoPort).count();
@@ -56,19 +55,21 @@ fn order(subject: &Subject) -> Option<String> {
     if !subject.answer.any_order {
         let noun = subject.noun();
         return Some(format!(
-            "The order of the {noun}s matters; check tells why."
+            "The order of the {noun}s may matter; check tells why."
         ));
     }
-    let writes = subject.given.writes.iter();
-    let selections = writes.filter(|write| write.offset == FPD3_PORT_SEL).count();
-    let alike = "The setup blocks may be run in any order: they end alike.";
-    (selections >= 2).then(|| alike.into())
+    let alike = match subject.findings(Kind::NotFollowed).next() {
+        None => "The setup blocks may be run in any order: they end alike.",
+        Some(_) => "The setup blocks may be run in any order, in what this model follows.",
+    };
+    (subject.selections() >= 2).then(|| alike.into())
 }
 
 /// What the model cannot say.
 fn print_unsaid(page: &mut Page, subject: &Subject) {
     page.line("What this model cannot say");
     page.line("  whether an output is switched on (register 33)");
+    page.line("  which pictures a camera sends, RAW10 or RAW12");
     page.line("  which camera is plugged into which port");
     let unfollowed = subject.numbers(Kind::NotFollowed);
     if !unfollowed.is_empty() {

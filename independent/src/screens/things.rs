@@ -63,13 +63,24 @@ fn print_finding(page: &mut Page, subject: &Subject, number: usize, finding: &Fi
         _ => capital(&clash(finding)),
     };
     page.line(named(format!("{number} {what}"), finding.kind));
+    print_lines(page, subject, finding);
+    if finding.kind == Kind::NotSetUp {
+        let port = finding.ports[0];
+        page.line(selection(subject, port));
+        let bit = 4 + port;
+        page.line(format!(
+            "  If no camera is there, it need not be forwarded: bit {bit} of register 20."
+        ));
+    }
+}
+
+/// "with the lines of the finding"
+pub fn print_lines(page: &mut Page, subject: &Subject, finding: &Finding) {
     for &line in &finding.lines {
         subject.print_typed(page, line);
     }
-    match finding.kind {
-        Kind::SameChannel => print_started(page, subject, finding),
-        Kind::NotSetUp => page.line(selection(subject, finding.ports[0])),
-        _ => {}
+    if finding.kind == Kind::SameChannel {
+        print_started(page, subject, finding);
     }
 }
 
@@ -97,9 +108,7 @@ fn selection(subject: &Subject, port: u8) -> String {
     match writes.find(|write| write.offset == FPD3_PORT_SEL && ticks(write.value)) {
         Some(write) => {
             let (noun, line) = (capital(noun), write.number);
-            format!(
-                "  {noun} {line} selects port {port}, and then no register of a port is written."
-            )
+            format!("  {noun} {line} selects port {port}, but none of its registers is set.")
         }
         None => {
             let value = port << 4 | 1 << port;

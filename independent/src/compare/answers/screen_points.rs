@@ -7,29 +7,31 @@ use crate::screens::{check, show, Subject};
 /// A point, and the words on the screen that it is known by.
 type Known = (&'static str, &'static str);
 
-const ON_SHOW: [Known; 16] = [
+const ON_SHOW: [Known; 18] = [
     ("show: no write", "no register write: "),
-    ("show: no write sets a register", ", and none of them "),
+    ("show: no write sets anything up", ", and none sets up "),
     ("show: not followed, and no port", " by this model, "),
     ("show: off as the chip starts", "not forwarded *"),
     ("show: off by a line", "not forwarded ("),
-    ("show: a lost address", "nobody any more "),
+    ("show: a device's own address is not set", " (not set) "),
     (
         "show: a read answered among several",
         "a read is answered by ",
     ),
     ("show: an unclear read", "a read has no clear answer "),
     ("show: no address reaches several ports", "reaches ports "),
-    ("show: as meant", ", as meant\n"),
+    ("show: perhaps meant", ", perhaps meant\n"),
     ("show: any order", " may be run in any order: "),
-    ("show: the order matters", "The order of the "),
+    ("show: any order in part", " may be run in any order, in "),
+    ("show: the order may matter", "The order of the "),
     ("show: one thing", "\n1 thing looks wrong. "),
     ("show: nothing wrong", "\nNothing looks wrong.\n"),
     ("show: nothing wrong in part", "\nNothing looks wrong in "),
-    ("show: nothing set", "\nNothing was set: "),
+    ("show: nothing set up", "\nNothing that this model "),
+    ("show: is it the right file", "\nThere is no register "),
 ];
 
-const ON_CHECK: [Known; 36] = [
+const ON_CHECK: [Known; 38] = [
     ("check: one thing", "\n1 thing looks wrong.\n"),
     ("check: more than 20 things", "\nand "),
     ("check: another port too", "  It selects port "),
@@ -38,8 +40,11 @@ const ON_CHECK: [Known; 36] = [
         " has that channel as ",
     ),
     ("check: nothing selects a port", "; WriteI2C(0x4C,0x"),
-    ("check: selected and not set up", ", and then no register "),
-    ("check: shared as meant", "\nShared as meant\n"),
+    (
+        "check: selected and not set up",
+        ", but none of its registers ",
+    ),
+    ("check: perhaps as meant", "\nShared, perhaps as meant\n"),
     ("check: on by off", "pass-through on by off "),
     ("check: off by on", "pass-through off by on "),
     ("check: another 58", " replaces register 58: "),
@@ -52,6 +57,7 @@ const ON_CHECK: [Known; 36] = [
     ("check: another 5C", " replaces register 5C: "),
     ("check: a camera's own address", "a camera's own address "),
     ("check: a camera's address", " replaces address "),
+    ("check: an address that was off", "address off by "),
     ("check: another 65", " replaces register 65: "),
     ("check: a RAW10 channel", " RAW10 channel "),
     ("check: a RAW10 data type", " RAW10 data type "),
@@ -73,11 +79,14 @@ const ON_CHECK: [Known; 36] = [
     ("check: one odd alias", "  1 alias with "),
     ("check: odd aliases", " aliases with "),
     ("check: an odd alias that is an address", "; for address "),
+    ("check: an odd alias that is off", " means off;"),
     ("check: more than ten odd aliases", "\n    and "),
     ("check: no address reaches several ports", " reaches ports "),
 ];
 
-const MORE: [&str; 11] = [
+const MORE: [&str; 13] = [
+    "show: a lost address that is marked",
+    "show: a lost address that is not marked",
     "show: no star",
     "show: a list over several lines",
     "show: more than 40 numbers",
@@ -114,12 +123,7 @@ pub fn note(coverage: &mut Coverage, subject: &Subject, words: &[Word]) {
         let screen = show(subject);
         let screen = String::from_utf8_lossy(&screen);
         note_both(coverage, "show", &screen, &ON_SHOW);
-        if !screen.contains("\n  * as ") {
-            coverage.note("show: no star");
-        }
-        if screen.lines().skip(1).any(|line| line.len() > 80) {
-            coverage.note("show: a row wider than the screen");
-        }
+        note_show(coverage, &screen);
     }
     if words.contains(&Word::Check) {
         let screen = check(subject);
@@ -135,6 +139,23 @@ pub fn note(coverage: &mut Coverage, subject: &Subject, words: &[Word]) {
         }
     }
     note_name(coverage, subject.name);
+}
+
+fn note_show(coverage: &mut Coverage, screen: &str) {
+    if !screen.contains("\n  * as ") {
+        coverage.note("show: no star");
+    }
+    for line in screen.lines().skip(1) {
+        if line.len() > 80 {
+            coverage.note("show: a row wider than the screen");
+        }
+        if line.contains("  nobody any more ") {
+            coverage.note(match line.as_bytes()[0] {
+                b'!' => "show: a lost address that is marked",
+                _ => "show: a lost address that is not marked",
+            });
+        }
+    }
 }
 
 fn note_both(coverage: &mut Coverage, name: &str, screen: &str, known: &[Known]) {

@@ -76,9 +76,13 @@ pub fn no_change(step: &Step) -> Option<Finding> {
 /// "`odd-alias` (0x5C or 0x65 to 0x6C of some port gets an odd value: the address is in bits 7 to
 /// 1)"
 pub fn odd_alias(step: &Step) -> Option<Finding> {
-    let offset = step.write.offset;
-    let is_target = (TARGET_ALIAS_0..TARGET_ALIAS_0 + TARGETS).contains(&offset);
-    let is_alias = offset == SER_ALIAS_ID || is_target;
-    let found = is_alias && step.write.value % 2 == 1 && !step.effect.ports().is_empty();
+    let is_odd = is_alias(step.write.offset) && step.write.value % 2 == 1;
+    let found = is_odd && !step.effect.ports().is_empty();
     found.then(|| at(step, Kind::OddAlias, Grade::Note))
+}
+
+/// "0x5C or 0x65 to 0x6C"
+pub fn is_alias(offset: u8) -> bool {
+    let is_target = (TARGET_ALIAS_0..TARGET_ALIAS_0 + TARGETS).contains(&offset);
+    offset == SER_ALIAS_ID || is_target
 }
