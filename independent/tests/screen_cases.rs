@@ -136,6 +136,13 @@ fn typed_lines_are_shown_without_control_characters() {
     let [_, checked] = screens(b"\t  WriteI2C(0x58,\t0x01)#\x1b[2J\x7f \\ \xC3\xBC\t \r\n");
     let typed = "     1  WriteI2C(0x58, 0x01)#\\x1b[2J\\x7f \\ \u{fc}  \\x0d";
     assert_eq!(part(&checked, "1 Line")[1], typed);
+    let [_, checked] = screens(b"WriteI2C(0x58,0x01) #\0 \tx\n");
+    let typed = "     1  WriteI2C(0x58,0x01) #\\x00  x";
+    assert_eq!(
+        part(&checked, "1 Line")[1],
+        typed,
+        "blanks at the start alone go"
+    );
     let Ok(subject) = Subject::of_script(b"a\tb\xC2\x9B", 0x3D, b"") else {
         panic!("it is refused");
     };

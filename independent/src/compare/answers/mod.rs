@@ -4,6 +4,7 @@
 
 mod calls;
 mod clash_points;
+mod lost_points;
 mod order_points;
 mod points;
 mod record_points;
@@ -43,7 +44,7 @@ pub static ANSWERS: Comparison = Comparison {
 
 fn compared(found: &Findings) -> String {
     let (scripts, traces) = (found.texts, found.traces);
-    format!("{scripts} scripts and {traces} traces, each as an object and both screens")
+    format!("{scripts} scripts and {traces} traces, as objects and on both screens")
 }
 
 fn compare_one(settings: &Settings, folder: &Path, number: u64) -> io::Result<Findings> {

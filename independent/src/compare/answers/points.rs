@@ -1,7 +1,7 @@
 //! The points that a comparison of answers must reach.
 
 use super::right::Word;
-use super::{clash_points, order_points, record_points, screen_points, write_points};
+use super::{clash_points, lost_points, order_points, record_points, screen_points, write_points};
 use crate::compare::coverage::Coverage;
 use crate::facts::findings::finding::{Finding, Grade, Kind};
 use crate::generate::answers::{Case, Job};
@@ -15,6 +15,7 @@ pub const POINTS: &[&str] = &joined::<
             + write_points::POINTS.len()
             + clash_points::POINTS.len()
             + screen_points::POINTS.len()
+            + lost_points::POINTS.len()
     },
 >();
 
@@ -25,6 +26,7 @@ const fn joined<const COUNT: usize>() -> [&'static str; COUNT] {
         write_points::POINTS,
         clash_points::POINTS,
         screen_points::POINTS,
+        lost_points::POINTS,
     ];
     let mut all = [""; COUNT];
     let (mut part, mut inside, mut place) = (0, 0, 0);
@@ -116,6 +118,9 @@ pub fn note(
             coverage.note(&format!("a {form}{no_bytes}"));
             note_taken(coverage, form, subject);
             screen_points::note(coverage, subject, words);
+            if words.contains(&Word::Show) {
+                lost_points::note(coverage, subject);
+            }
         }
         Err(refused) => {
             let number = refused.refusal.number();

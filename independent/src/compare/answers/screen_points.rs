@@ -84,7 +84,7 @@ const ON_CHECK: [Known; 38] = [
     ("check: no address reaches several ports", " reaches ports "),
 ];
 
-const MORE: [&str; 13] = [
+const MORE: [&str; 15] = [
     "show: a lost address that is marked",
     "show: a lost address that is not marked",
     "show: no star",
@@ -95,9 +95,18 @@ const MORE: [&str; 13] = [
     "check: more than 40 numbers",
     "check: an odd alias above 7F",
     "check: a control character in a line",
+    "check: a control character of two bytes",
+    "check: a blank after a byte of zero",
     "a control character in a name",
     "a long name",
     "standard input",
+];
+
+/// Those that are known by what stands in a line of check's; C2 alone is no character.
+const TYPED: [Known; 3] = [
+    ("check: a control character in a line", "\\x"),
+    ("check: a control character of two bytes", "\u{FFFD}\\x85"),
+    ("check: a blank after a byte of zero", "\\x00 "),
 ];
 
 pub const POINTS: &[&str] = &names();
@@ -133,8 +142,10 @@ pub fn note(coverage: &mut Coverage, subject: &Subject, words: &[Word]) {
             if line.contains(" means address ") && !line.contains(';') {
                 coverage.note("check: an odd alias above 7F");
             }
-            if line.contains("\\x") {
-                coverage.note("check: a control character in a line");
+            for (point, shown) in TYPED {
+                if line.contains(shown) {
+                    coverage.note(point);
+                }
             }
         }
     }

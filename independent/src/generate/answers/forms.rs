@@ -24,11 +24,24 @@ pub fn script(rng: &mut Rng, writes: &Writes) -> Vec<u8> {
         text.extend(call(rng, offset, value));
         if !tidy && rng.one_in(4) {
             text.extend(lines::blanks(rng));
-            text.extend(lines::comment(rng));
+            text.extend(comment(rng));
         }
         text.push(b'\n');
     }
     text
+}
+
+/// Now and then with bytes that are not shown as they are, and blanks after them.
+fn comment(rng: &mut Rng) -> Vec<u8> {
+    if rng.one_in(5) {
+        let bytes = [
+            &b"#\0 \t x"[..],
+            b"#\xC2\x85\x85 \xC2\x9B",
+            b"#\x1B \x1B[1m",
+        ];
+        return rng.pick(&bytes).to_vec();
+    }
+    lines::comment(rng)
 }
 
 /// The same with many empty lines at one place.

@@ -161,8 +161,26 @@ pub fn again(rng: &mut Rng) -> Writes {
         }
         writes.extend(block);
     }
+    if rng.one_in(4) {
+        writes.extend(unheard(rng));
+    }
     if rng.one_in(2) {
         writes.push(forwarding(rng, &[0, 1, 2, 3]));
+    }
+    writes
+}
+
+/// A block after which nobody hears a camera's address, though not because its alias was replaced:
+/// the alias has the other bit 0, or was hidden by the serializer's.
+fn unheard(rng: &mut Rng) -> Writes {
+    let port = rng.below(4) as u8;
+    let alias = 0x62 + 2 * port;
+    let mut writes = vec![select(rng, port)];
+    if rng.one_in(2) {
+        writes.extend([(TARGET_ALIAS_0, alias | 1), (BCC_CONFIG, 0x18)]);
+    } else {
+        writes.push((SER_ALIAS_ID, alias));
+        writes.extend([(TARGET_ALIAS_0, 0x70), (SER_ALIAS_ID, 0x72)]);
     }
     writes
 }
