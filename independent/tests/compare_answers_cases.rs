@@ -1,43 +1,17 @@
 //! The comparison of answers: it passes a right program, and finds and keeps what a wrong one says.
 #![cfg(unix)]
 
+mod answers;
 mod common;
 
+use answers::{changed, found, RIGHT};
 use common::TestFolder;
 use independent::compare::answers::ANSWERS;
-use independent::compare::comparison::{Findings, Settings};
+use independent::compare::comparison::Settings;
 use independent::generate::samples::SCRIPTS;
 use std::fs;
 use std::path::PathBuf;
 use std::time::Duration;
-
-/// The program's words in those of the independent program; check says its status on descriptor 3.
-const RIGHT: &str = "word=$1; shift
-case $word in
-    json) exec OWN show --json \"$@\" ;;
-    show) exec OWN show \"$@\" ;;
-    check) OWN check \"$@\"; printf $? >&3 ;;
-    check-json) OWN check --json \"$@\"; printf $? >&3 ;;
-esac";
-
-/// A program that does this with what a right one prints for the word.
-fn changed(word: &str, change: &str) -> String {
-    let change = format!("if [ $word = {word} ]; then {change}; else cat; fi");
-    let right = RIGHT.replace("exec ", "");
-    format!("right() {{\n{right}\n}}\nword=$1; right \"$@\" | {change}")
-}
-
-impl TestFolder {
-    fn findings(&self, script: &str, count: u64) -> Findings {
-        ANSWERS.run(&self.settings(script, count)).unwrap()
-    }
-}
-
-/// What is found in the program.
-fn found(name: &str, script: &str) -> String {
-    let findings = TestFolder::new(name).findings(script, 400);
-    findings.difference.map_or("nothing".into(), |it| it.what)
-}
 
 #[test]
 fn a_right_program_passes_and_too_few_cases_do_not() {
@@ -124,38 +98,6 @@ fn a_finding_left_out_is_found() {
         let change = format!("sed 's/ *\\[{kind}\\]//'");
         let what = found(&format!("unnamed-{kind}"), &changed("check", &change));
         assert!(what.contains(&format!("[{kind}]")), "{kind}: {what}");
-    }
-}
-
-#[test]
-fn each_part_of_the_screens_is_compared() {
-    let changes = [
-        ("show", "s/^! /  /"),
-        ("show", "s/nobody any more/nobody/"),
-        (
-            "show",
-            "s/replaced by \\(line\\|record\\)/replaced by the \\1/",
-        ),
-        ("show", "s/, perhaps meant//"),
-        ("show", "s/^  \\*/ */"),
-        ("show", "s/the records may/the lines may/"),
-        ("show", "s/standard input/-/"),
-        ("show", "s/ and \\([0-9]*\\) more$//"),
-        ("show", "/^      a read /d"),
-        ("check", "s/ would\\./ will./"),
-        ("check", "s/^and [0-9]* more like these$/and more/"),
-        ("check", "s/ too, as / too as /"),
-        ("check", "s/has that channel/has this channel/"),
-        ("check", "s/; for address .*//"),
-        ("check", "s/\\\\x0d$//"),
-        ("check", "s/^     \\([0-9]\\)  /    \\1   /"),
-        ("check", "/^Shared, perhaps/d"),
-        ("check", "$d"),
-    ];
-    for (place, (word, change)) in changes.into_iter().enumerate() {
-        let name = format!("screen-{place}");
-        let what = found(&name, &changed(word, &format!("sed '{change}'")));
-        assert!(what.starts_with("line "), "{word} {change}: {what}");
     }
 }
 

@@ -13,31 +13,34 @@ use std::collections::BTreeSet;
 /// "Of `odd-alias` each of the first ten is explained".
 const MOST_EXPLAINED: usize = 10;
 
+/// The kinds of which the numbers are listed, with the words for one write and for several.
+const AT_WRITES: [(Kind, &str, &str); 4] = [
+    (
+        Kind::SharedInBlock,
+        "write to a shared register between the blocks",
+        "writes to shared registers between the blocks",
+    ),
+    (
+        Kind::NotFollowed,
+        "write to a register that this model does not follow",
+        "writes to registers that this model does not follow",
+    ),
+    (
+        Kind::BitsIgnored,
+        "write with bits that cannot be written",
+        "writes with bits that cannot be written",
+    ),
+    (
+        Kind::NoChange,
+        "write that changes nothing",
+        "writes that change nothing",
+    ),
+];
+
 pub fn print(page: &mut Page, subject: &Subject) {
     let mut notes = Page::default();
     print_selections(&mut notes, subject);
-    for (kind, one, several) in [
-        (
-            Kind::SharedInBlock,
-            "write to a shared register between the blocks",
-            "writes to shared registers between the blocks",
-        ),
-        (
-            Kind::NotFollowed,
-            "write to a register that this model does not follow",
-            "writes to registers that this model does not follow",
-        ),
-        (
-            Kind::BitsIgnored,
-            "write with bits that cannot be written",
-            "writes with bits that cannot be written",
-        ),
-        (
-            Kind::NoChange,
-            "write that changes nothing",
-            "writes that change nothing",
-        ),
-    ] {
+    for (kind, one, several) in AT_WRITES {
         print_numbers(
             &mut notes,
             subject,
