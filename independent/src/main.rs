@@ -14,8 +14,9 @@ use std::path::Path;
 use std::process::ExitCode;
 
 const USAGE: &str = "use: independent play FILE | cases | samples FOLDER | \
-convert trace ADDRESS SCRIPT OUT PART | convert text TRACE | \
-show [--json] ADDRESS SCRIPT | show [--json] TRACE | check [--json] ADDRESS SCRIPT | check [--json] TRACE | \
+convert trace board|sheet ADDRESS SCRIPT OUT PART | convert text TRACE | convert start TRACE | \
+show [--json] [--sheet] ADDRESS SCRIPT | show [--json] TRACE | \
+check [--json] [--sheet] ADDRESS SCRIPT | check [--json] TRACE | \
 compare PLAYER [--seed S] [--count N] [--keep DIR] [--tally] | \
 compare-scripts CONVERT [--seed S] [--count N] [--keep DIR] [--tally] | \
 compare-answers SHOW [--seed S] [--count N] [--keep DIR] [--tally] | \
@@ -43,10 +44,11 @@ fn run(arguments: &[OsString]) -> Result<(), Failure> {
         ("play", [file]) => play::run(Path::new(file)),
         ("cases", []) => compare::print_cases(),
         ("samples", [folder]) => generate::samples(Path::new(folder)),
-        ("convert", [what, address, script, out, _part]) if what == "trace" => {
-            convert::trace(address, Path::new(script), Path::new(out))
+        ("convert", [what, start, address, script, out, _part]) if what == "trace" => {
+            convert::trace(start, address, Path::new(script), Path::new(out))
         }
         ("convert", [what, trace]) if what == "text" => convert::text(Path::new(trace)),
+        ("convert", [what, trace]) if what == "start" => convert::start(Path::new(trace)),
         ("show", arguments) => show::show(arguments),
         ("check", arguments) => show::check(arguments),
         ("compare", [player, options @ ..]) => compare::run(&PLAYERS, player, options),

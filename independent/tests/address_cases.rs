@@ -3,9 +3,10 @@
 use independent::model::addresses::{Device, Direction, Heard, Role};
 use independent::model::hub::{route, Hub, Route};
 use independent::model::refusal::Refusal;
+use independent::model::start::{Start, STARTS};
 
 fn hub(writes: &[(u8, u8)]) -> Hub {
-    let mut hub = Hub::new(0x3D).unwrap();
+    let mut hub = Hub::new(0x3D, Start::Sheet).unwrap();
     for &(offset, value) in writes {
         hub.registers.write(offset, value);
     }
@@ -97,7 +98,9 @@ fn pass_through_off_and_zero_aliases_find_nobody() {
 fn addresses_have_their_ranges() {
     for address in 0..=255u8 {
         let allowed = (0x08..=0x77).contains(&address);
-        assert_eq!(Hub::new(address).is_ok(), allowed);
+        for start in STARTS {
+            assert_eq!(Hub::new(address, start).is_ok(), allowed);
+        }
         let answer = hub(&[]).who_hears(address, Direction::Write);
         let refused = answer == Err(Refusal::AddressOutOfRange);
         assert_eq!(refused, address > 0x7F);

@@ -7,6 +7,7 @@ use independent::compare::json::is_json;
 use independent::facts::answer::Answer;
 use independent::facts::object::object;
 use independent::generate::samples::SCRIPTS;
+use independent::model::start::{Start, STARTS};
 use std::fs;
 use std::path::Path;
 
@@ -16,7 +17,7 @@ fn sample(name: &str) -> Vec<u8> {
 }
 
 fn of_sample(name: &str) -> Answer {
-    Answer::of_script(0x3D, &sample(name)).unwrap()
+    Answer::of_script(0x3D, Start::Board, &sample(name)).unwrap()
 }
 
 /// Address, who hears a write, who answers a read, lines.
@@ -31,7 +32,7 @@ fn addresses(answer: &Answer) -> Vec<String> {
 fn the_right_weighbridge_has_nothing_but_two_repeated_start_values() {
     let answer = of_sample("weighbridge.script");
     let expected = concat!(
-        r#"{"hub":"3D","writes":21,"any_order":true,"ports":["#,
+        r#"{"hub":"3D","start":"board","writes":21,"any_order":true,"ports":["#,
         r#"{"port":0,"output":0,"raw10":0,"raw12":0,"lines":{"forwarding":33,"raw10":9,"raw12":null}},"#,
         r#"{"port":1,"output":0,"raw10":1,"raw12":1,"lines":{"forwarding":33,"raw10":16,"raw12":null}},"#,
         r#"{"port":2,"output":1,"raw10":0,"raw12":2,"lines":{"forwarding":33,"raw10":23,"raw12":null}},"#,
@@ -109,7 +110,8 @@ fn traces_of_the_samples_answer_with_their_records() {
 fn none_of_the_data_sheets_scripts_is_called_wrong() {
     for (name, text) in SCRIPTS {
         for hub in 0x08..=0x77 {
-            let answer = Answer::of_script(hub, text).unwrap();
+            let start = STARTS[usize::from(hub % 2)];
+            let answer = Answer::of_script(hub, start, text).unwrap();
             assert!(
                 !answer.is_wrong(),
                 "{name} on {hub:02X}: {}",
@@ -171,7 +173,7 @@ fn who_answers_a_read_is_printed_as_the_player_does() {
 #[test]
 fn the_hubs_own_address_hides_the_aliases_that_equal_it() {
     let text = b"WriteI2C(0x4c,0x0f)\nWriteI2C(0x58,0x58)\nWriteI2C(0x65,0x60)\n";
-    let answer = Answer::of_script(0x30, text).unwrap();
+    let answer = Answer::of_script(0x30, Start::Board, text).unwrap();
     assert_eq!(addresses(&answer), ["30 hub hub []"]);
     assert_eq!(of_kind(&answer, "same-address"), facts::NONE);
 }

@@ -12,6 +12,7 @@ use independent::facts::run::{run, Run};
 use independent::generate::answers::{numbered, Job, Kind};
 use independent::generate::rng::Rng;
 use independent::model::registers::{register, reset_value, RegisterFile};
+use independent::model::start::Start;
 
 const FPD3_PORT_SEL: u8 = 0x4C;
 
@@ -21,7 +22,11 @@ fn cases(count: u64) -> impl Iterator<Item = Given> {
         let case = numbered(20, number);
         match case.job {
             _ if matches!(case.kind, Kind::Read | Kind::Played) => None,
-            Job::Script { address, text } => of_script(address, &text).ok(),
+            Job::Script {
+                address,
+                start,
+                text,
+            } => of_script(address, start, &text).ok(),
             Job::Trace { trace } => of_trace(&trace).ok(),
         }
     };
@@ -43,6 +48,14 @@ fn last_that_reached(writes: &[Write], port: u8, offset: u8) -> Option<&Write> {
     Some(&writes[found])
 }
 
+/// The board's start differs from the data sheet's in 1E alone, where it has 00.
+fn shared_start(start: Start, offset: u8) -> u8 {
+    match (start, offset) {
+        (Start::Board, 0x1E) => 0x00,
+        _ => register(offset).reset,
+    }
+}
+
 #[test]
 fn an_origin_explains_the_value_of_its_register() {
     for given in cases(600) {
@@ -58,7 +71,8 @@ fn an_origin_explains_the_value_of_its_register() {
                 let origin = reached.find(|it| it.offset == offset);
                 let number = origins.shared(offset).map(|it| it.number);
                 assert_eq!(number, origin.map(|it| it.number));
-                assert_eq!(hub.registers.shared(offset), explained(row.reset, origin));
+                let start = shared_start(given.start, offset);
+                assert_eq!(hub.registers.shared(offset), explained(start, origin));
                 continue;
             }
             for port in 0..4u8 {

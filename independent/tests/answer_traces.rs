@@ -4,11 +4,12 @@ mod facts;
 
 use facts::of_kind;
 use independent::facts::answer::Answer;
+use independent::model::start::Start;
 use independent::model::trace_builder::TraceBuilder;
 
 #[test]
 fn each_byte_of_a_burst_is_a_write() {
-    let mut trace = TraceBuilder::with_hub(0x3D);
+    let mut trace = TraceBuilder::with_hub(0x3D, Start::Board);
     trace.burst(0x4C, &[0x02]);
     trace.burst(0x5B, &[0xB0, 0x19, 0x61]);
     trace.read(0x4C);
@@ -30,7 +31,7 @@ fn round(last: &[(u8, u8)]) -> Answer {
     values[0x4C + 256 - 0x70] = 0x01;
     values[0x58 + 256 - 0x70] = 0x58;
     values[0x65 + 256 - 0x70] = 0x62;
-    let mut trace = TraceBuilder::with_hub(0x3D);
+    let mut trace = TraceBuilder::with_hub(0x3D, Start::Board);
     trace.write(0x4C, 0x01);
     trace.burst(0x70, &values);
     for &(offset, value) in last {
@@ -52,10 +53,11 @@ fn a_block_begins_at_the_byte_for_4c() {
 
 #[test]
 fn a_refusal_has_the_number_that_convert_and_the_player_print() {
-    let script = |address, text: &str| match Answer::of_script(address, text.as_bytes()) {
-        Ok(_) => "taken".into(),
-        Err(refused) => refused.to_string(),
-    };
+    let script =
+        |address, text: &str| match Answer::of_script(address, Start::Board, text.as_bytes()) {
+            Ok(_) => "taken".into(),
+            Err(refused) => refused.to_string(),
+        };
     assert_eq!(script(0x3D, ""), "taken");
     assert_eq!(script(0x78, "x"), "! 2");
     assert_eq!(script(0x3D, "\nWriteI2C(0x58 0x58)\n"), "2 ! 14");
@@ -74,7 +76,10 @@ fn a_refusal_has_the_number_that_convert_and_the_player_print() {
     let hub: (u8, &[u8]) = (0x00, &[0x3D]);
     assert_eq!(trace(&[]), "! 13");
     assert_eq!(trace(&[hub]), "taken");
+    assert_eq!(trace(&[(0x00, &[0x3D, 0x00])]), "taken");
     assert_eq!(trace(&[(0x00, &[0x07])]), "1 ! 2");
+    assert_eq!(trace(&[(0x00, &[0x07, 0x00])]), "1 ! 2");
+    assert_eq!(trace(&[(0x00, &[0x07, 0x01])]), "1 ! 13");
     assert_eq!(trace(&[(0x01, &[0x4C, 0x0F])]), "1 ! 13");
     assert_eq!(trace(&[hub, (0x01, &[0x4C, 0x0F]), hub]), "3 ! 13");
     assert_eq!(trace(&[hub, (0x03, &[0x30, 0x02])]), "2 ! 13");

@@ -42,7 +42,7 @@ fn another_word_is_found_and_kept() {
         assert_eq!(file("script"), SCRIPTS[0].1);
         let call = String::from_utf8(file("call.txt")).unwrap();
         assert!(
-            call.starts_with(&format!("{word} 3D SCRIPT\nSCRIPT is /")),
+            call.starts_with(&format!("{word} board 3D SCRIPT\nSCRIPT is /")),
             "{call}"
         );
         assert_ne!(
@@ -57,6 +57,7 @@ fn another_word_is_found_and_kept() {
 fn each_part_of_the_object_is_compared() {
     let changes = [
         ("hub", "s/\"hub\":\"0/\"hub\":\"/"),
+        ("start", "s/\"start\":\"sheet\"/\"start\":\"board\"/"),
         ("writes", "s/\"writes\":21/\"writes\":20/"),
         ("any-order", "s/\"any_order\":false/\"any_order\":true/"),
         ("output", "s/\"output\":null/\"output\":0/"),
@@ -74,6 +75,31 @@ fn each_part_of_the_object_is_compared() {
         let what = found(name, &changed("json", &format!("sed '{change}'")));
         assert!(what.starts_with("line 1"), "{name}: {what}");
     }
+}
+
+#[test]
+fn another_start_is_found() {
+    let board = RIGHT.replace("set -- --sheet \"$@\"", ":");
+    let sheet = RIGHT.replace("board) shift ;;", "board) shift; set -- --sheet \"$@\" ;;");
+    for (name, script) in [("always-board", board), ("always-sheet", sheet)] {
+        let what = found(name, &script);
+        assert!(what.contains("\"start\\\":"), "{name}: {what}");
+    }
+}
+
+/// A program that says the start it is given, and runs the script from the other.
+#[test]
+fn a_start_that_is_only_said_is_found() {
+    let script = format!(
+        "case \"$1 $2\" in
+    'json board') OWN show --json --sheet $3 \"$4\" | sed 's/:\"sheet\"/:\"board\"/'; exit ;;
+    'json sheet') OWN show --json $3 \"$4\" | sed 's/:\"board\"/:\"sheet\"/'; exit ;;
+esac
+{RIGHT}"
+    );
+    let folder = TestFolder::new("only-said");
+    let what = folder.findings(&script, 800).difference.unwrap().what;
+    assert!(what.contains("no-change"), "{what}");
 }
 
 #[test]

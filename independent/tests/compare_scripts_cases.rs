@@ -7,6 +7,7 @@ use common::TestFolder;
 use independent::compare::comparison::{Findings, Settings};
 use independent::compare::scripts::CONVERTERS;
 use independent::generate::samples::SCRIPTS;
+use independent::model::start::{Start, STARTS};
 use std::fs;
 use std::path::PathBuf;
 use std::time::Duration;
@@ -49,7 +50,7 @@ fn a_right_converter_reaches_every_point() {
 #[test]
 fn a_changed_byte_of_the_trace_is_found_and_kept() {
     let folder = TestFolder::new("changed-trace");
-    let script = "OWN convert \"$@\"; [ $1 = text ] || printf X | dd of=\"$4\" bs=1 seek=4 conv=notrunc 2>/dev/null";
+    let script = "OWN convert \"$@\"; [ $1 != trace ] || printf X | dd of=\"$5\" bs=1 seek=4 conv=notrunc 2>/dev/null";
     let difference = folder.findings(script, 60).difference.unwrap();
     assert_eq!((difference.number, difference.kind), (0, "sample"));
     let expected = "the trace's file should have 65 bytes and has 65, which differ from byte 4 on";
@@ -81,34 +82,38 @@ fn another_refusal_or_line_number_is_found() {
 
 #[test]
 fn a_refusal_that_touches_the_trace_file_is_found() {
-    let what = found("emptied", "[ $1 = text ] || : >\"$4\"; OWN convert \"$@\"");
+    let what = found(
+        "emptied",
+        "[ $1 != trace ] || : >\"$5\"; OWN convert \"$@\"",
+    );
     assert!(what.starts_with("the trace's file should"), "{what}");
-    let script = "[ $1 = text ] || [ -e \"$4\" ] || : >\"$4\"; OWN convert \"$@\"";
+    let script = "[ $1 != trace ] || [ -e \"$5\" ] || : >\"$5\"; OWN convert \"$@\"";
     let what = found("made", script);
     assert_eq!(what, "the trace's file should not be there");
-    let script = "[ $1 = text ] || rm -f \"$4\"; OWN convert \"$@\"";
+    let script = "[ $1 != trace ] || rm -f \"$5\"; OWN convert \"$@\"";
     assert_eq!(found("removed", script), "the trace's file is not there");
 }
 
 #[test]
 fn a_trace_file_that_is_not_made_or_not_cut_is_found() {
-    let script = "[ $1 = text ] && exec OWN convert \"$@\"; OWN convert trace $2 $3 /dev/null -";
+    let script =
+        "[ $1 != trace ] && exec OWN convert \"$@\"; OWN convert trace $2 $3 $4 /dev/null -";
     let what = found("not-made", script);
     assert!(what.starts_with("the trace's file"), "{what}");
-    let script = "[ $1 = text ] && exec OWN convert \"$@\"
-OWN convert trace $2 $3 \"$4.new\" -
-[ ! -e \"$4.new\" ] || dd if=\"$4.new\" of=\"$4\" conv=notrunc 2>/dev/null; rm -f \"$4.new\"";
+    let script = "[ $1 != trace ] && exec OWN convert \"$@\"
+OWN convert trace $2 $3 $4 \"$5.new\" -
+[ ! -e \"$5.new\" ] || dd if=\"$5.new\" of=\"$5\" conv=notrunc 2>/dev/null; rm -f \"$5.new\"";
     let what = found("not-cut", script);
     assert!(what.contains("bytes and has 5000"), "{what}");
 }
 
 #[test]
 fn a_file_that_is_left_behind_is_found() {
-    let script = "OWN convert \"$@\"; [ $1 = text ] || : >\"$4.part\"";
+    let script = "OWN convert \"$@\"; [ $1 != trace ] || : >\"$5.part\"";
     let expected = "the file out.trace.part was left behind";
     assert_eq!(found("part-left", script), expected);
-    let script = "[ $1 = text ] && exec OWN convert \"$@\"
-OWN convert trace $2 $3 \"$4.part\" -; [ -e \"$4.part\" ] && exec mv \"$4.part\" \"$4\"; : >\"$4.part\"";
+    let script = "[ $1 != trace ] && exec OWN convert \"$@\"
+OWN convert trace $2 $3 $4 \"$5.part\" -; [ -e \"$5.part\" ] && exec mv \"$5.part\" \"$5\"; : >\"$5.part\"";
     assert_eq!(found("part-left-by-a-refusal", script), expected);
 }
 
@@ -131,7 +136,7 @@ fn wrong_streams_are_found() {
         what.contains(missing) && what.ends_with("and is missing"),
         "{what}"
     );
-    let what = found("done", "OWN convert \"$@\"; [ $1 = text ] || echo done");
+    let what = found("done", "OWN convert \"$@\"; [ $1 != trace ] || echo done");
     assert_eq!(what, "line 1 should be missing and is \"done\\n\"");
     let what = found("status", "OWN convert \"$@\"; exit 1");
     assert!(what.contains("exit status: 1"), "{what}");
@@ -148,8 +153,8 @@ fn a_converter_that_takes_too_much_is_found() {
     ];
     for (name, change, expected) in changes {
         let script = format!(
-            "[ $1 = text ] && exec OWN convert \"$@\"
-cat $3 | {change} | OWN convert trace $2 - \"$4\" -"
+            "[ $1 != trace ] && exec OWN convert \"$@\"
+cat $4 | {change} | OWN convert trace $2 $3 - \"$5\" -"
         );
         let findings = TestFolder::new(name).findings(&script, 2500);
         let what = findings.difference.unwrap().what;
@@ -166,6 +171,48 @@ fn another_text_is_found() {
     assert!(what.contains("should be \"WriteI2C(0x00,"), "{what}");
     let what = found("hub-line", "[ $1 = text ] && echo; exec OWN convert \"$@\"");
     assert!(what.starts_with("line 1 should be"), "{what}");
+}
+
+#[test]
+fn another_start_is_found() {
+    for start in STARTS {
+        let (name, other) = (
+            start.name(),
+            STARTS[usize::from(start == Start::Board)].name(),
+        );
+        let script = format!(
+            "[ $1 = trace ] || exec OWN convert \"$@\"; exec OWN convert trace {name} $3 $4 \"$5\" -"
+        );
+        let what = found(&format!("always-{name}"), &script);
+        assert!(what.ends_with("which differ from byte 3 on"), "{what}");
+        let said = format!("OWN convert \"$@\" | sed 's/^\\(..\\) {name}$/\\1 {other}/'");
+        let what = found(&format!("says-{other}"), &said);
+        let expected = format!(" {name}\\n\" and is \"");
+        assert!(what.contains(&expected) && what.contains(other), "{what}");
+    }
+    let what = found(
+        "silent",
+        "[ $1 != start ] || exit 0; exec OWN convert \"$@\"",
+    );
+    assert!(what.ends_with("and is missing"), "{what}");
+}
+
+#[test]
+fn a_hub_record_that_is_none_has_to_be_refused() {
+    let taken = |second: &str| {
+        format!(
+            "[ $1 = text ] && [ $2 != - ] || exec OWN convert \"$@\"
+case $(head -c 6 $2 | od -An -tx1 | tr -d ' ') in
+    9a640002??{second}) printf '\\232d\\0\\1='; tail -c +7 $2 ;;
+    *) cat $2 ;;
+esac | OWN convert text -"
+        )
+    };
+    for second in ["01", "ff", "[1-9a-f]?"] {
+        let findings = TestFolder::new("second-byte").findings(&taken(second), 2500);
+        let what = findings.difference.unwrap().what;
+        assert!(what.starts_with("line 1 should be \"! 13\\n\""), "{what}");
+    }
 }
 
 #[test]

@@ -5,8 +5,10 @@ use independent::model::header;
 use independent::model::packet::Written;
 use independent::model::refusal::Refusal;
 use independent::model::registers::RegisterFile;
+use independent::model::start::Start;
 
-/// Frames with every port forwarded to output 0 and a buffer for the longest line.
+/// Frames as the data sheet starts, with every port forwarded to output 0 and a buffer for the longest
+/// line.
 struct Setup {
     registers: RegisterFile,
     frames: Frames,
@@ -16,7 +18,7 @@ struct Setup {
 impl Setup {
     fn new() -> Setup {
         let mut setup = Setup {
-            registers: RegisterFile::after_reset(),
+            registers: RegisterFile::at_start(Start::Sheet),
             frames: Frames::default(),
             buffer: vec![0xEE; 6150],
         };

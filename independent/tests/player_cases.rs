@@ -3,6 +3,7 @@
 use independent::generate::rng::Rng;
 use independent::generate::samples::whole_case;
 use independent::model::player::{text_of, Unwatched};
+use independent::model::start::{Start, STARTS};
 use independent::model::trace_builder::TraceBuilder;
 
 fn text(trace: &[u8]) -> String {
@@ -24,14 +25,16 @@ fn an_empty_file_gives_the_last_line_alone() {
 
 #[test]
 fn files_that_begin_wrongly() {
-    let beginnings: [&[u8]; 9] = [
+    let beginnings: [&[u8]; 11] = [
         &[0x9A],
         &[0x00],
         &[0x9A, 0x64],
         &[0x9A, 0x64, 0x00],
         &[0x9A, 0x64, 0x00, 0x01],
         &[0x64, 0x9A, 0x00, 0x01, 0x3D],
+        &[0x9A, 0x64, 0x00, 0x02, 0x3D],
         &[0x9A, 0x64, 0x00, 0x02, 0x3D, 0x3D],
+        &[0x9A, 0x64, 0x00, 0x03, 0x3D, 0x00, 0x00],
         &[0x9A, 0x64, 0x00, 0x00, 0x3D],
         &[0x9A, 0x64, 0x02, 0x01, 0x4C],
     ];
@@ -43,15 +46,17 @@ fn files_that_begin_wrongly() {
 #[test]
 fn refusal_2_in_record_1_ends_the_run() {
     for address in [0x00, 0x07, 0x78, 0x80, 0xFF] {
-        let mut trace = TraceBuilder::with_hub(address);
-        trace.read(0x4C);
-        assert_eq!(played(trace), "1 ! 2\nrecords 1 refused 1\n");
+        for start in STARTS {
+            let mut trace = TraceBuilder::with_hub(address, start);
+            trace.read(0x4C);
+            assert_eq!(played(trace), "1 ! 2\nrecords 1 refused 1\n");
+        }
     }
 }
 
 #[test]
 fn refusal_2_later_does_not() {
-    let mut trace = TraceBuilder::with_hub(0x3D);
+    let mut trace = TraceBuilder::with_hub(0x3D, Start::Sheet);
     trace.ask_both(0x80);
     trace.read(0x0A);
     let expected = "1 H 3D\n2 ! 2\n3 ! 2\n4 R 0A 79\nrecords 4 refused 2\n";
@@ -60,8 +65,9 @@ fn refusal_2_later_does_not() {
 
 #[test]
 fn refusal_13_comes_before_all_others_and_ends_the_run() {
-    let wrong: [(u8, &[u8]); 14] = [
+    let wrong: [(u8, &[u8]); 15] = [
         (0x00, &[0x3D]),
+        (0x00, &[0x3D, 0x00]),
         (0x00, &[0xFF]),
         (0x01, &[0x4C]),
         (0x01, &[]),
@@ -77,7 +83,7 @@ fn refusal_13_comes_before_all_others_and_ends_the_run() {
         (0x12, &[0x04, 0x00, 0x00, 0x00, 0x00, 0x00]),
     ];
     for (kind, data) in wrong {
-        let mut trace = TraceBuilder::with_hub(0x3D);
+        let mut trace = TraceBuilder::with_hub(0x3D, Start::Sheet);
         trace.record(kind, data);
         trace.read(0x4C);
         assert_eq!(played(trace), REFUSED_SECOND, "{kind:02X} {data:02X?}");
@@ -112,7 +118,7 @@ fn every_cut_of_the_whole_case_prints_a_part_of_it() {
 
 #[test]
 fn answers_of_every_form() {
-    let mut trace = TraceBuilder::with_hub(0x3D);
+    let mut trace = TraceBuilder::with_hub(0x3D, Start::Sheet);
     trace.burst(0x4C, &[0x0F]);
     trace.write(0x58, 0x58);
     trace.burst(0x5B, &[0xB0, 0x18]);
@@ -147,7 +153,7 @@ records 15 refused 0
 
 #[test]
 fn a_full_burst_counts_254_values() {
-    let mut trace = TraceBuilder::with_hub(0x3D);
+    let mut trace = TraceBuilder::with_hub(0x3D, Start::Sheet);
     trace.burst(0x00, &[0xFF; 254]);
     let expected = "1 H 3D\n2 W 00 254\nrecords 2 refused 0\n";
     assert_eq!(played(trace), expected);

@@ -2,6 +2,7 @@
 
 use independent::generate::samples::{write_all, SCRIPTS};
 use independent::model::convert::to_trace;
+use independent::model::start::Start;
 use std::fs;
 use std::path::{Path, PathBuf};
 
@@ -27,7 +28,8 @@ fn the_stored_traces_are_those_that_are_written() {
 
 #[test]
 fn the_data_sheet_has_133_calls_in_ten_blocks() {
-    let calls = SCRIPTS.map(|(_, text)| (to_trace(0x3D, text).unwrap().len() - 5) / 6);
+    let calls =
+        SCRIPTS.map(|(_, text)| (to_trace(0x3D, Start::Board, text).unwrap().len() - 5) / 6);
     assert_eq!(calls, [10, 22, 15, 12, 12, 12, 5, 4, 9, 32]);
     assert_eq!(calls.iter().sum::<usize>(), 133);
     let files = fs::read_dir(stored().join("datasheet")).unwrap();
@@ -41,7 +43,7 @@ fn the_scripts_of_the_weighbridges_are_their_set_ups() {
     for name in ["weighbridge", "wrong_page"] {
         let script = fs::read(stored().join(format!("{name}.script"))).unwrap();
         let trace = fs::read(stored().join(format!("{name}.trace"))).unwrap();
-        let set_up = to_trace(0x3D, &script).unwrap();
+        let set_up = to_trace(0x3D, Start::Board, &script).unwrap();
         assert_eq!(set_up.len(), 5 + 21 * 6, "{name}");
         assert!(trace.starts_with(&set_up), "{name}");
         assert_eq!(trace[set_up.len() + 2], 0x03, "then the first question");

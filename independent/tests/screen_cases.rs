@@ -1,5 +1,6 @@
 //! The screens: those that are stored, and parts of a few made by hand.
 
+use independent::model::start::Start;
 use independent::model::trace_builder::TraceBuilder;
 use independent::screens::{check, show, Subject};
 use std::fs;
@@ -38,7 +39,7 @@ fn the_stored_screens_are_printed() {
         let bytes = fs::read(root().join(&file)).unwrap();
         let subject = match is_trace {
             true => Subject::of_trace(file.as_bytes(), &bytes),
-            false => Subject::of_script(file.as_bytes(), 0x3D, &bytes),
+            false => Subject::of_script(file.as_bytes(), 0x3D, Start::Board, &bytes),
         };
         let subject = subject.unwrap_or_else(|refused| panic!("{name}: {refused}"));
         assert!(show(&subject) == stored("show"), "{name}");
@@ -56,7 +57,7 @@ fn script(writes: Writes) -> Vec<u8> {
 
 /// The lines of both screens of a script on the hub 3D.
 fn screens(text: &[u8]) -> [Vec<String>; 2] {
-    let Ok(subject) = Subject::of_script(b"given", 0x3D, text) else {
+    let Ok(subject) = Subject::of_script(b"given", 0x3D, Start::Board, text) else {
         panic!("it is refused");
     };
     [show(&subject), check(&subject)].map(lines)
@@ -85,14 +86,17 @@ fn numbers_are_listed_up_to_forty_and_wrap() {
     ];
     assert_eq!(part(&shown, "  what it"), list);
     assert_eq!(part(&checked, "Notes").len(), 5);
-    let mut trace = TraceBuilder::with_hub(0x3D);
+    let mut trace = TraceBuilder::with_hub(0x3D, Start::Sheet);
     trace.burst(0x30, &[1, 2, 3]);
     let trace = trace.into_bytes();
     let Ok(subject) = Subject::of_trace(b"-", &trace) else {
         panic!("it is refused");
     };
     let shown = lines(show(&subject));
-    assert_eq!(shown[0], "standard input on hub 3D");
+    assert_eq!(
+        shown[0],
+        "standard input on hub 3D, as the data sheet starts"
+    );
     assert_eq!(
         part(&shown, "  what it"),
         ["  what it does not follow: records 2"]
@@ -143,10 +147,11 @@ fn typed_lines_are_shown_without_control_characters() {
         typed,
         "blanks at the start alone go"
     );
-    let Ok(subject) = Subject::of_script(b"a\tb\xC2\x9B", 0x3D, b"") else {
+    let Ok(subject) = Subject::of_script(b"a\tb\xC2\x9B", 0x3D, Start::Sheet, b"") else {
         panic!("it is refused");
     };
-    assert!(show(&subject).starts_with(b"a b\xC2\\x9b on hub 3D\nno register write: "));
+    let start = b"a b\xC2\\x9b on hub 3D, as the data sheet starts\nno register write: ";
+    assert!(show(&subject).starts_with(start));
 }
 
 #[test]

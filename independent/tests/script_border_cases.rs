@@ -29,10 +29,10 @@ fn call(difference: &Difference) -> String {
 #[test]
 fn a_script_of_which_too_little_is_read_is_found() {
     for border in [65_536, 131_072, 262_144] {
-        let wrong = format!("cat $3 | head -c {border} | OWN convert trace $2 - \"$4\" -");
-        let file = found("script-file", "[ $1 = trace ] && [ $3 != - ]", &wrong);
+        let wrong = format!("cat $4 | head -c {border} | OWN convert trace $2 $3 - \"$5\" -");
+        let file = found("script-file", "[ $1 = trace ] && [ $4 != - ]", &wrong);
         assert!(call(&file).ends_with(" SCRIPT OUT PART"), "{}", call(&file));
-        let pipe = found("script-pipe", "[ $1 = trace ] && [ $3 = - ]", &wrong);
+        let pipe = found("script-pipe", "[ $1 = trace ] && [ $4 = - ]", &wrong);
         assert!(call(&pipe).ends_with(" - OUT PART"), "{}", call(&pipe));
     }
 }
@@ -55,7 +55,7 @@ fn a_text_or_trace_of_which_too_little_is_written_is_found() {
         let what = found("text-cut", "[ $1 = text ]", &wrong).what;
         assert!(what.contains("should be \"WriteI2C(0x"), "{what}");
     }
-    let wrong = "OWN convert trace $2 $3 \"$4\" -; truncate -c -s '<65536' \"$4\"";
+    let wrong = "OWN convert trace $2 $3 $4 \"$5\" -; truncate -c -s '<65536' \"$5\"";
     let what = found("trace-cut", "[ $1 = trace ]", wrong).what;
     assert!(what.ends_with("which differ from byte 65536 on"), "{what}");
 }
@@ -63,8 +63,8 @@ fn a_text_or_trace_of_which_too_little_is_written_is_found() {
 #[test]
 fn a_byte_that_is_left_out_at_a_border_is_found() {
     let left_out = |file: &str| format!("{{ head -c 65535 {file}; tail -c +65537 {file}; }}");
-    let wrong = format!("{} | OWN convert trace $2 - \"$4\" -", left_out("$3"));
-    found("script-byte", "[ $1 = trace ] && [ $3 != - ]", &wrong);
+    let wrong = format!("{} | OWN convert trace $2 $3 - \"$5\" -", left_out("$4"));
+    found("script-byte", "[ $1 = trace ] && [ $4 != - ]", &wrong);
     let wrong = format!("{} | OWN convert text -", left_out("$2"));
     found("trace-byte", "[ $1 = text ] && [ $2 != - ]", &wrong);
 }

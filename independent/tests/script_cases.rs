@@ -2,6 +2,7 @@
 
 use independent::model::convert::{to_text, to_trace, Refused};
 use independent::model::refusal::Refusal;
+use independent::model::start::{Start, STARTS};
 use independent::model::trace_builder::TraceBuilder;
 
 /// What the program would print of a refusal.
@@ -13,7 +14,7 @@ fn refused<T>(answer: Result<T, Refused>) -> String {
 
 /// Of a script, with a hub address that is right.
 fn refusal(text: &str) -> String {
-    refused(to_trace(0x3D, text.as_bytes()))
+    refused(to_trace(0x3D, Start::Board, text.as_bytes()))
 }
 
 fn text_of(trace: TraceBuilder) -> Result<String, Refused> {
@@ -40,7 +41,10 @@ WriteI2C(0xf,0xaB)#
         0x9A, 0x64, 0x01, 2, 0xB0, 0x02, //
         0x9A, 0x64, 0x01, 2, 0x0F, 0xAB,
     ];
-    assert_eq!(to_trace(0x3D, text.as_bytes()).unwrap(), trace);
+    assert_eq!(
+        to_trace(0x3D, Start::Board, text.as_bytes()).unwrap(),
+        trace
+    );
 }
 
 #[test]
@@ -54,8 +58,10 @@ fn texts_without_a_call_give_the_hub_record_alone() {
         "\t# \r\0\u{B5}\n",
         "# x\n\n",
     ] {
-        let trace = to_trace(0x77, text.as_bytes()).unwrap();
+        let trace = to_trace(0x77, Start::Board, text.as_bytes()).unwrap();
         assert_eq!(trace, [0x9A, 0x64, 0x00, 1, 0x77], "{text:?}");
+        let trace = to_trace(0x77, Start::Sheet, text.as_bytes()).unwrap();
+        assert_eq!(trace, [0x9A, 0x64, 0x00, 2, 0x77, 0x00], "{text:?}");
     }
 }
 
@@ -104,17 +110,19 @@ fn a_last_line_without_a_line_feed_is_none() {
 fn the_hub_address_comes_before_any_line() {
     for address in [0x00, 0x07, 0x78, 0x7F, 0x80, 0xFF] {
         for text in ["", "x", &" ".repeat(300)] {
-            assert_eq!(refused(to_trace(address, text.as_bytes())), "! 2");
+            for start in STARTS {
+                assert_eq!(refused(to_trace(address, start, text.as_bytes())), "! 2");
+            }
         }
     }
     for address in [0x08, 0x77] {
-        assert_eq!(refused(to_trace(address, b"x\n")), "1 ! 14");
+        assert_eq!(refused(to_trace(address, Start::Sheet, b"x\n")), "1 ! 14");
     }
 }
 
 #[test]
 fn a_trace_gives_a_line_for_each_byte() {
-    let mut trace = TraceBuilder::with_hub(0x3D);
+    let mut trace = TraceBuilder::with_hub(0x3D, Start::Sheet);
     trace.write(0x4C, 0x0F);
     trace.burst(0xFE, &[0x01, 0xAB, 0x00, 0xF0]);
     let text = "\
@@ -125,8 +133,11 @@ WriteI2C(0x00,0x00)
 WriteI2C(0x01,0xf0)
 ";
     assert_eq!(text_of(trace).unwrap(), text);
-    assert_eq!(text_of(TraceBuilder::with_hub(0x08)).unwrap(), "");
-    let mut trace = TraceBuilder::with_hub(0x3D);
+    assert_eq!(
+        text_of(TraceBuilder::with_hub(0x08, Start::Board)).unwrap(),
+        ""
+    );
+    let mut trace = TraceBuilder::with_hub(0x3D, Start::Sheet);
     trace.burst(0x80, &[0x55; 254]);
     let text = text_of(trace).unwrap();
     assert_eq!(text.lines().count(), 254);
@@ -136,7 +147,7 @@ WriteI2C(0x01,0xf0)
 #[test]
 fn traces_are_refused_record_by_record() {
     let with = |address: u8, records: &[(u8, &[u8])]| {
-        let mut trace = TraceBuilder::with_hub(address);
+        let mut trace = TraceBuilder::with_hub(address, Start::Board);
         for (kind, data) in records {
             trace.record(*kind, data);
         }

@@ -3,7 +3,7 @@
 use independent::compare::coverage::Coverage;
 use independent::compare::scripts::{note_points, CONVERTERS};
 use independent::generate::scripts::{numbered, Case, Job, Kind};
-use independent::model::convert::{to_text, to_trace};
+use independent::model::convert::{hub_of, to_text, to_trace};
 use independent::model::player::end_state;
 use independent::model::refusal::Refusal;
 use independent::model::script_line::LONGEST_LINE;
@@ -23,7 +23,10 @@ fn the_text_of_a_trace_plays_to_the_same_end_state() {
             continue;
         };
         let end = end_state(&trace).unwrap();
-        let again = to_trace(end.address, &text).unwrap();
+        let (address, start) = hub_of(&trace).unwrap();
+        assert_eq!(address, end.address);
+        let again = to_trace(address, start, &text).unwrap();
+        assert_eq!(hub_of(&again).unwrap(), (address, start));
         assert_eq!(end_state(&again).unwrap(), end);
         assert_eq!(to_text(&again).unwrap(), text);
         turned += 1;
@@ -35,14 +38,20 @@ fn the_text_of_a_trace_plays_to_the_same_end_state() {
 fn the_trace_of_a_text_is_the_one_of_its_own_text() {
     let mut turned = 0;
     for case in cases(4) {
-        let Job::Trace { address, text } = case.job else {
+        let Job::Trace {
+            address,
+            start,
+            text,
+        } = case.job
+        else {
             continue;
         };
-        let Ok(trace) = to_trace(address, &text) else {
+        let Ok(trace) = to_trace(address, start, &text) else {
             continue;
         };
         let plain = to_text(&trace).unwrap();
-        assert_eq!(to_trace(address, &plain).unwrap(), trace);
+        assert_eq!(hub_of(&trace).unwrap(), (address, start));
+        assert_eq!(to_trace(address, start, &plain).unwrap(), trace);
         turned += 1;
     }
     assert!(turned > 250);
@@ -52,10 +61,15 @@ fn the_trace_of_a_text_is_the_one_of_its_own_text() {
 fn wrong_lines_are_refused_14() {
     let mut refusals = 0;
     for case in cases(5).filter(|case| case.wrong.is_some()) {
-        let Job::Trace { address, text } = case.job else {
+        let Job::Trace {
+            address,
+            start,
+            text,
+        } = case.job
+        else {
             panic!("a wrong line is a text");
         };
-        let refused = to_trace(address, &text).unwrap_err();
+        let refused = to_trace(address, start, &text).unwrap_err();
         assert_eq!(refused.refusal, Refusal::LineShape, "{:?}", case.wrong);
         refusals += 1;
     }
@@ -67,12 +81,17 @@ fn right_lines_are_taken() {
     let is_right = |case: &Case| matches!(case.kind, Kind::Right | Kind::Sample);
     let mut taken = 0;
     for case in cases(6).filter(is_right) {
-        let Job::Trace { address, text } = case.job else {
+        let Job::Trace {
+            address,
+            start,
+            text,
+        } = case.job
+        else {
             panic!("right lines are a text");
         };
         let longest = text.split(|&byte| byte == b'\n').map(<[u8]>::len).max();
         assert!(longest <= Some(LONGEST_LINE));
-        assert!(to_trace(address, &text).is_ok());
+        assert!(to_trace(address, start, &text).is_ok());
         taken += 1;
     }
     assert!(taken > 150, "{taken} right texts");

@@ -26,7 +26,12 @@ fn screen(file: &str) -> String {
 fn both_commands_print_the_same_object() {
     let (right, wrong) = ("samples/weighbridge.script", "samples/wrong_page.script");
     let shown = call(&["show", "--json", "3D", right]);
-    assert!(shown.0.starts_with("{\"hub\":\"3D\",\"writes\":21,") && shown.0.ends_with("]}\n"));
+    assert!(
+        shown
+            .0
+            .starts_with("{\"hub\":\"3D\",\"start\":\"board\",\"writes\":21,")
+            && shown.0.ends_with("]}\n")
+    );
     assert_eq!((shown.1, shown.2), (false, 0));
     assert_eq!(call(&["check", "--json", "3d", right]), shown);
     let shown = call(&["show", "--json", "3D", wrong]);
@@ -82,6 +87,8 @@ fn a_wrong_call_is_status_2_and_a_missing_file_1() {
         &["show", "--json"],
         &["show", "3", "samples/weighbridge.script"],
         &["show", "3D", "samples/weighbridge.script", "more"],
+        &["show", "--sheet", "samples/weighbridge.trace"],
+        &["show", "3D", "--sheet", "samples/weighbridge.script"],
     ] {
         assert_eq!(call(arguments), (String::new(), true, 2), "{arguments:?}");
     }

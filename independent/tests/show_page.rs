@@ -6,6 +6,7 @@ use independent::facts::answer::Answer;
 use independent::facts::findings::finding::KINDS;
 use independent::facts::object::object;
 use independent::generate::answers::{numbered, Job};
+use independent::model::start::Start;
 use std::collections::{BTreeMap, BTreeSet};
 use std::fs;
 use std::path::Path;
@@ -29,7 +30,7 @@ fn the_example_is_the_object_of_the_sample() {
     let page = text("docs/SHOW.md");
     let example = page.rsplit("```\n").nth(1).unwrap().replace('\n', "");
     let script = text("samples/wrong_page.script");
-    let answer = Answer::of_script(0x3D, script.as_bytes()).unwrap();
+    let answer = Answer::of_script(0x3D, Start::Board, script.as_bytes()).unwrap();
     assert_eq!(example, object(&answer));
     assert!(is_json(example.as_bytes()) && !is_json(&example.as_bytes()[1..]));
 }
@@ -63,7 +64,11 @@ fn the_table_has_every_kind_with_its_grades_and_fields() {
     let mut seen: BTreeMap<String, (BTreeSet<String>, BTreeSet<String>)> = BTreeMap::new();
     for number in 0..600 {
         let answer = match numbered(20, number).job {
-            Job::Script { address, text } => Answer::of_script(address, &text),
+            Job::Script {
+                address,
+                start,
+                text,
+            } => Answer::of_script(address, start, &text),
             Job::Trace { trace } => Answer::of_trace(&trace),
         };
         let Ok(answer) = answer else { continue };

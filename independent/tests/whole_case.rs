@@ -1,5 +1,5 @@
-//! Document 01's whole case: the bytes typed out here, the lines exactly as it prints them. The
-//! model is compiled here by itself, so it needs nothing else of this package.
+//! Document 01's whole case, which names the data sheet's start since L5: the bytes typed out here, the
+//! lines exactly as it prints them. The model is compiled here by itself, so it needs nothing else of this package.
 
 #[allow(dead_code)]
 #[path = "../src/model/mod.rs"]
@@ -9,7 +9,7 @@ use independent::generate::samples::whole_case;
 use model::player::{text_of, Totals, Unwatched};
 
 const TRACE: &[u8] = &[
-    0x9A, 0x64, 0x00, 1, 0x3D, //
+    0x9A, 0x64, 0x00, 2, 0x3D, 0x00, //
     0x9A, 0x64, 0x01, 2, 0x4C, 0x12, //
     0x9A, 0x64, 0x01, 2, 0x58, 0x58, //
     0x9A, 0x64, 0x01, 2, 0x5D, 0x60, //

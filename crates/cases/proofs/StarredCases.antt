@@ -7,6 +7,7 @@ use Rattle.laws.specs.Tables.{tabulate, tabulateFrom}
 use Rattle.registers.specs.RegisterMap.{rows, rowIn, resetOf, maskOf, perPort}
 use Rattle.registers.specs.RegisterFiles.{pageResetAt, resetFile, readRegister}
 use Rattle.registers.specs.RegisterFiles.{writeShared, writePage, writePorts, writeRegister}
+use Rattle.registers.specs.PowerUps.{powerUpFile}
 use Rattle.registers.specs.Bursts.{burstWrites, writeEach, writeBurst}
 use Rattle.hub.specs.Hubs.{hubWith, hubBurst, hubRead}
 use Rattle.ecc.specs.CheckBytes.{onesAmong, checkByte}
@@ -17,7 +18,8 @@ use Rattle.reader.specs.Reader.{readBody, readPacket}
 use Rattle.cases.specs.StarredCases.{StarredCases}
 
 pub starred-cases : StarredCases
-unfolding bit masked tabulate tabulateFrom rows rowIn resetOf maskOf perPort pageResetAt resetFile writeShared
+unfolding bit masked tabulate tabulateFrom rows rowIn resetOf maskOf perPort pageResetAt resetFile powerUpFile
+    writeShared
     writePage writePorts writeRegister burstWrites writeEach writeBurst readRegister hubWith hubBurst hubRead
     onesAmong checkByte isRight correctFrom correctionOf readBody readPacket groups packGroup payloadOf
 starred-cases =

@@ -5,6 +5,7 @@ use mathlib.Core.List.{[], _∷_}
 use Prim.Native.Nat.{ℕ}
 use Rattle.laws.specs.Reply.{refused, given}
 use Rattle.formats.specs.declared.Format.the-variants.{Raw10, Raw12}
+use Rattle.registers.specs.declared.power_up.PowerUp.the-variants.{Reset}
 use Rattle.hub.specs.declared.Hub.{Hub}
 use Rattle.hub.specs.Hubs.{hubAt, hubBurst, hubRead}
 use Rattle.ecc.specs.declared.Corrected.{Corrected}
@@ -15,7 +16,7 @@ use Rattle.reader.specs.Reader.{Packet, readPacket}
 
 -- a hub after reset
 abbrev reset : Hub
-reset = hubAt 0x3D
+reset = hubAt Reset 0x3D
 
 -- a hub after one register write
 abbrev write : ℕ → ℕ → Hub

@@ -3,6 +3,7 @@ use crate::print;
 use hub::CreationAnswer;
 use hub::Hub;
 use registers::PageAccess;
+use registers::power_up::PowerUp;
 use translation::Devices;
 use translation::PortDevice;
 use translation::ReadAnswer;
@@ -11,7 +12,7 @@ use translation::WriteAnswer;
 
 // The hub 0x3D at reset. (A refused address is said, and the case goes on with the hub that stands beside the refusal.)
 pub(crate) fn start() -> Hub {
-    let made = hub::new(0x3D);
+    let made = hub::new(0x3D, PowerUp::Reset);
     let answer = made.answer;
     match answer {
         CreationAnswer::AddressOutOfRange => print::refusal(2),

@@ -11,6 +11,7 @@ pub enum Command {
     Play,
     Show,
     Check,
+    Start,
 }
 
 fn command_name(command: Command) {
@@ -32,6 +33,9 @@ fn command_name(command: Command) {
         }
         Command::Check => {
             io::write_all(STDERR_FILENO, b"check");
+        }
+        Command::Start => {
+            io::write_all(STDERR_FILENO, b"start");
         }
     }
 }

@@ -1,4 +1,4 @@
-// A script to a trace: convert trace ADDRESS SCRIPT OUT PART.
+// A script to a trace: convert trace START ADDRESS SCRIPT OUT PART.
 ghost use Prim.Native.Nat.{_≤_, _<_};
 ghost use lib.ListN.{length};
 ghost use Rattle.script.specs.Grammar.{longestScriptLine};
@@ -11,7 +11,8 @@ use console::input::Read;
 use console::say;
 use console::say::Command;
 use console::status::Status;
-use script::records::HUB_RECORD;
+use registers::power_up::PowerUp;
+use script::records::LONGEST_HUB_RECORD;
 use scriptlines::ScriptFile;
 
 // How far the script is converted: the script, whether it has a call so far, whether nothing is left to do, and whether
@@ -23,13 +24,6 @@ struct Progress {
     failed: bool,
 }
 
-// Writes the hub record.
-fn write_hub(fd: i32, address: u8) -> bool {
-    let mut record = [0u8; HUB_RECORD];
-    script::records::put_hub(&mut record, 0, address);
-    io::write_all(fd, &record)
-}
-
 // Writes the first bytes of the records, or says that they cannot be written.
 fn write_records(command: Command, fd: i32, out: &[u8], records: &[u8], end: usize) -> bool
     requires { ⌜ end ≤ length (now records) ⌝ }
@@ -39,6 +33,19 @@ fn write_records(command: Command, fd: i32, out: &[u8], records: &[u8], end: usi
     }
     part::say_unwritten(command, out);
     false
+}
+
+// Writes the hub record, or says that it cannot be written.
+fn write_hub(command: Command, fd: i32, out: &[u8], address: u8, start: PowerUp) -> bool {
+    let mut record = [0u8; LONGEST_HUB_RECORD];
+    script::records::put_hub(&mut record, 0, address, start);
+    write_records(
+        command,
+        fd,
+        out,
+        &record,
+        script::records::hub_length(start),
+    )
 }
 
 // Takes the lines that were read, and writes their records.
@@ -162,14 +169,14 @@ fn keep(command: Command, progress: Progress, to: i32, out: &[u8], name: &[u8]) 
 fn convert(
     command: Command,
     address: u8,
+    start: PowerUp,
     from: i32,
     script: &[u8],
     to: i32,
     out: &[u8],
     name: &[u8],
 ) -> Status {
-    if !write_hub(to, address) {
-        part::say_unwritten(command, out);
+    if !write_hub(command, to, out, address, start) {
         part::discard(to, name);
         return Status::Failed;
     }
@@ -200,6 +207,7 @@ fn convert(
 fn convert_file(
     command: Command,
     address: u8,
+    start: PowerUp,
     from: i32,
     script: &[u8],
     out: &[u8],
@@ -209,11 +217,18 @@ fn convert_file(
     if to < 0 {
         return Status::Failed;
     }
-    convert(command, address, from, script, to, out, name)
+    convert(command, address, start, from, script, to, out, name)
 }
 
 // Converts the script where the address is one that a hub may have.
-fn convert_script(command: Command, address: u8, script: &[u8], out: &[u8], name: &[u8]) -> Status {
+fn convert_script(
+    command: Command,
+    address: u8,
+    start: PowerUp,
+    script: &[u8],
+    out: &[u8],
+    name: &[u8],
+) -> Status {
     let number = scriptlines::address_refusal(address);
     if number != 0 {
         return address::refuse(command, address, number);
@@ -222,32 +237,39 @@ fn convert_script(command: Command, address: u8, script: &[u8], out: &[u8], name
     if from < 0 {
         return Status::Failed;
     }
-    let status = convert_file(command, address, from, script, out, name);
+    let status = convert_file(command, address, start, from, script, out, name);
     libc::close(from);
     status
 }
 
 // Converts the script into the trace, the hub's address given as a word.
-fn convert_words(command: Command, word: &[u8], script: &[u8], out: &[u8], name: &[u8]) -> Status {
+fn convert_words(
+    command: Command,
+    word: &[u8],
+    start: PowerUp,
+    script: &[u8],
+    out: &[u8],
+    name: &[u8],
+) -> Status {
     match address::of_word(word) {
         Address::NotTwoDigits => {
             address::say_form(command);
             Status::Failed
         }
-        Address::Given(given) => convert_script(command, given, script, out, name),
+        Address::Given(given) => convert_script(command, given, start, script, out, name),
     }
 }
 
 // Takes the names of OUT and of PART.
-fn convert_named(command: Command, word: &[u8], script: &[u8]) -> Status {
+fn convert_named(command: Command, word: &[u8], start: PowerUp, script: &[u8]) -> Status {
     let mut out = io::buffer();
-    let out_length = os::arg(4, &mut out);
+    let out_length = os::arg(5, &mut out);
     if os::errno() != 0 {
         say::failed(command, b"cannot write the trace");
         return Status::Failed;
     }
     let mut name = io::buffer();
-    let name_length = os::arg(5, &mut name);
+    let name_length = os::arg(6, &mut name);
     if os::errno() != 0 {
         say::failed(command, b"cannot write the trace");
         return Status::Failed;
@@ -255,20 +277,26 @@ fn convert_named(command: Command, word: &[u8], script: &[u8]) -> Status {
     convert_words(
         command,
         word,
+        start,
         script,
         &out[..out_length],
         &name[..name_length],
     )
 }
 
-pub(crate) fn run(command: Command) -> Status {
+pub(crate) fn run(command: Command, start: PowerUp) -> Status {
     let mut word = io::buffer();
-    let word_length = os::arg(2, &mut word);
+    let word_length = os::arg(3, &mut word);
     let mut script = io::buffer();
-    let script_length = os::arg(3, &mut script);
+    let script_length = os::arg(4, &mut script);
     if os::errno() != 0 {
         say::failed(command, b"cannot open the script");
         return Status::Failed;
     }
-    convert_named(command, &word[..word_length], &script[..script_length])
+    convert_named(
+        command,
+        &word[..word_length],
+        start,
+        &script[..script_length],
+    )
 }

@@ -6,6 +6,7 @@ use Rattle.laws.specs.MaskedWrites.{masked}
 use Rattle.laws.specs.Tables.{tabulateFrom, tabulate}
 use Rattle.registers.specs.RegisterMap.{rows, rowIn, resetOf, maskOf, perPort}
 use Rattle.registers.specs.RegisterFiles.{pageResetAt, resetFile, writeShared, writePage, writePorts, writeRegister}
+use Rattle.registers.specs.PowerUps.{bootFile, powerUpFile}
 use Rattle.origins.specs.NumberedWrites.{numberedAs}
 use Rattle.origins.specs.Origins.{reaches}
 use Rattle.origins.specs.KeptOrigins.{keptNumber, originsAfter, writeNumbered, writeNumberedEach, startWith}
@@ -18,7 +19,7 @@ use Rattle.explained.specs.Examples.{LinesNamed}
 
 pub lines-named : LinesNamed
 unfolding bit masked tabulateFrom tabulate rows rowIn resetOf maskOf perPort
-    pageResetAt resetFile writeShared writePage writePorts writeRegister
+    pageResetAt resetFile bootFile powerUpFile writeShared writePage writePorts writeRegister
     numberedAs reaches keptNumber originsAfter writeNumbered writeNumberedEach startWith
     isBlank digitValue afterBlanks afterPrefix afterToken digitsRead valueRead callIfEnded callRead scriptLineRead
     withByte partsOf scriptLineReply restReply numberedFrom numberedCalls
@@ -27,7 +28,8 @@ lines-named =
       lastLine = refl;
       lastValue = refl;
       noLine = refl;
-      resetValue = refl;
+      startValue = refl;
+      cleared = refl;
       sharedLine = refl;
       writableBits = refl;
     }

@@ -5,13 +5,14 @@ use mathlib.Core.List.{List, _++_}
 use Prim.Native.Nat.{ℕ}
 use Rattle.laws.specs.Reply.{given, onReply}
 use Rattle.laws.proofs.Replies.{given-same}
+use Rattle.registers.specs.declared.power_up.PowerUp.{PowerUp}
 use Rattle.hub.specs.declared.Hub.{Hub}
 use Rattle.hub.specs.Hubs.{ArrayLengths, hubWith, hubAt}
 use Rattle.hub.proofs.Hubs.{start-lengths}
 use Rattle.setup.specs.Demand3.{Alike}
 use Rattle.origins.specs.NumberedWrites.{NumberedWrite, unnumberedWrites}
 use Rattle.origins.specs.Origins.{FileOfBytes}
-use Rattle.origins.proofs.FileBytes.{reset-of-bytes}
+use Rattle.origins.proofs.FileBytes.{power-up-of-bytes}
 use Rattle.ordering.specs.Layouts.{joinedBlocks, runWrites}
 use Rattle.ordering.proofs.LayoutEvery.{any-order-exact}
 use Rattle.ordering.proofs.Reordered.{run-registers, same-run, any-order-holds}
@@ -23,17 +24,17 @@ use Rattle.playback.specs.Playing.{endHub}
 use Rattle.roundtrip.proofs.RunLaws.{calls-are-played}
 use Rattle.explained.specs.Reordered.{InOtherOrder, ScriptReordered}
 
--- the player's run of a script is that of its writes from the hub at reset
-played-run : (address : ℕ) (text : List ℕ) (room : ℕ) (trace : List ℕ) (writes : List NumberedWrite)
-    → numberedCalls text ≡ given writes → scriptTrace address text room ≡ given trace
-    → endHub trace ≡ runWrites (hubAt address) writes
+-- the player's run of a script is that of its writes from the hub as it starts
+played-run : (address : ℕ) (start : PowerUp) (text : List ℕ) (room : ℕ) (trace : List ℕ) (writes : List NumberedWrite)
+    → numberedCalls text ≡ given writes → scriptTrace address start text room ≡ given trace
+    → endHub trace ≡ runWrites (hubAt start address) writes
 unfolding hubWith
-played-run address text room trace writes e made =
-    let such = exactly-such-texts address text room trace .only made in
+played-run address start text room trace writes e made =
+    let such = exactly-such-texts address start text room trace .only made in
     let read = sym (numbers-forgotten text) ∙ ap (onReply unnumberedWrites) e in
     let calls = given-same (scripts-taken text (such .calls) .every (such .script)) read in
-    rw (such .made, calls, run-registers (hubAt address) writes)
-    (calls-are-played address (unnumberedWrites writes) (such .allowed))
+    rw (such .made, calls, run-registers (hubAt start address) writes)
+    (calls-are-played address start (unnumberedWrites writes) (such .allowed))
 
 -- from any hub the writes of both end alike
 runs-alike : {writes others : List NumberedWrite} → InOtherOrder writes others
@@ -44,9 +45,9 @@ runs-alike {writes} {others} order hub lengths ofBytes =
     rw (same-run hub others (layout .start ++ (joinedBlocks (order .blocks) ++ layout .end)) (order .written))
     (any-order-holds hub lengths ofBytes writes layout (order .blocks) (order .reordered))
 
-reset-bytes : (address : ℕ) → FileOfBytes (hubAt address .registers)
+start-bytes : (start : PowerUp) (address : ℕ) → FileOfBytes (hubAt start address .registers)
 unfolding hubWith
-reset-bytes address = reset-of-bytes
+start-bytes start address = power-up-of-bytes start
 
 pub script-reordered : ScriptReordered
 script-reordered text writes read decided =
@@ -55,11 +56,11 @@ script-reordered text writes read decided =
       alike = λ other others otherRead order.
           record {
             fromEveryStart = runs-alike order;
-            played = λ address room otherRoom trace otherTrace made otherMade.
+            played = λ address start room otherRoom trace otherTrace made otherMade.
                 rw (
-                  played-run address text room trace writes read made,
-                  played-run address other otherRoom otherTrace others otherRead otherMade,
+                  played-run address start text room trace writes read made,
+                  played-run address start other otherRoom otherTrace others otherRead otherMade,
                 )
-                (runs-alike order (hubAt address) (start-lengths address) (reset-bytes address));
+                (runs-alike order (hubAt start address) (start-lengths start address) (start-bytes start address));
           };
     }

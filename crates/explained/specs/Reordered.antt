@@ -5,6 +5,7 @@ use mathlib.Core.Bool.{true}
 use mathlib.Core.List.{List, _++_, List·Permᴰ}
 use Prim.Native.Nat.{ℕ}
 use Rattle.laws.specs.Reply.{given}
+use Rattle.registers.specs.declared.power_up.PowerUp.{PowerUp}
 use Rattle.hub.specs.declared.Hub.{Hub}
 use Rattle.hub.specs.Hubs.{ArrayLengths}
 use Rattle.setup.specs.Demand3.{Alike}
@@ -25,13 +26,13 @@ pub record InOtherOrder (writes others : List NumberedWrite) : Type 0 where
   pub written : unnumberedWrites others ≡ unnumberedWrites (layout .start ++ (joinedBlocks blocks ++ layout .end))
 
 -- It "ends alike from every start": the writes of both texts, from any one hub (each meets `ArrayLengths` and
--- `FileOfBytes`, see `AnyOrderHolds` of ordering); and the player, where both texts are run with one address. (Every
--- script has a trace, with every address that a hub may have, in any buffer with room for it: `ScriptRun .made`.)
+-- `FileOfBytes`, see `AnyOrderHolds` of ordering); and the player, where both are run with one address and start.
+-- (Every script has a trace, with every address that a hub may have, in any buffer with room: `ScriptRun .made`.)
 pub record EndAlike (text other : List ℕ) (writes others : List NumberedWrite) : Type 0 where
   pub fromEveryStart : (hub : Hub) → ArrayLengths hub → FileOfBytes (hub .registers)
       → Alike (runWrites hub writes) (runWrites hub others)
-  pub played : (address room otherRoom : ℕ) (trace otherTrace : List ℕ)
-      → scriptTrace address text room ≡ given trace → scriptTrace address other otherRoom ≡ given otherTrace
+  pub played : (address : ℕ) (start : PowerUp) (room otherRoom : ℕ) (trace otherTrace : List ℕ)
+      → scriptTrace address start text room ≡ given trace → scriptTrace address start other otherRoom ≡ given otherTrace
       → Alike (endHub trace) (endHub otherTrace)
 
 -- there is a layout of the script, and every other text that has its blocks in another order ends alike

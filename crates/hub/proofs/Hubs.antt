@@ -9,7 +9,8 @@ use Rattle.laws.specs.Reply.{refused, given}
 use Rattle.registers.specs.declared.RegisterFile.{RegisterFile}
 use Rattle.registers.specs.declared.PageAccess.the-variants.{Selection}
 use Rattle.registers.specs.Bursts.{burstWrites, writeEach}
-use Rattle.registers.proofs.RegisterFiles.{reset-lengths}
+use Rattle.registers.specs.declared.power_up.PowerUp.{PowerUp}
+use Rattle.registers.proofs.PowerUps.{power-up-lengths}
 use Rattle.registers.proofs.Bursts.{burst-writes}
 use Rattle.hub.specs.declared.Hub.{Hub}
 use Rattle.hub.specs.Hubs.{ArrayLengths, hubWith, hubAt, isHubAddress, creationWith, withRegisters, hubBurst}
@@ -27,9 +28,11 @@ module _ (start : RegisterFile) (address : ℕ) where
   unfolding hubWith
   start-registers = refl
 
-pub start-lengths : (address : ℕ) → ArrayLengths (hubAt address)
+pub start-lengths : (start : PowerUp) (address : ℕ) → ArrayLengths (hubAt start address)
 unfolding hubWith
-start-lengths address = record { shared = reset-lengths .0; pages = reset-lengths .1; frames = refl }
+start-lengths start address =
+    let lengths = power-up-lengths start in
+    record { shared = lengths .0; pages = lengths .1; frames = refl }
 
 -- What is known of a field that is an array of structs is the length of the list of their machine values. `search`
 -- finds it with this law, wherever the field stands and whatever the structs hold.

@@ -11,7 +11,9 @@ use Rattle.laws.specs.Reply.{Reply, refused, given}
 use Rattle.formats.specs.declared.Format.{Format}
 use Rattle.registers.specs.declared.RegisterFile.{RegisterFile}
 use Rattle.registers.specs.declared.PageAccess.the-variants.{Selection}
-use Rattle.registers.specs.RegisterFiles.{resetFile, readRegister}
+use Rattle.registers.specs.declared.power_up.PowerUp.{PowerUp}
+use Rattle.registers.specs.RegisterFiles.{readRegister}
+use Rattle.registers.specs.PowerUps.{powerUpFile}
 use Rattle.registers.specs.Bursts.{writeBurst}
 use Rattle.hub.specs.declared.LastFrame.{LastFrame}
 use Rattle.hub.specs.declared.LastFrame.the-variants.{NoFrame, Closed, Open}
@@ -53,9 +55,9 @@ firstFrames = record { last = NoFrame }
 unfoldable pub hubWith : RegisterFile → ℕ → Hub
 hubWith start address = record { address = address; registers = start; frames = replicate 4 firstFrames }
 
--- at reset
-abbrev pub hubAt : ℕ → Hub
-hubAt address = hubWith resetFile address
+-- as it starts (L5)
+abbrev pub hubAt : PowerUp → ℕ → Hub
+hubAt start address = hubWith (powerUpFile start) address
 
 -- Document 01: the hub's own address "lies in 0x08 to 0x77"
 unfoldable pub isHubAddress : ℕ → Bool
@@ -65,8 +67,8 @@ isHubAddress address = leb 0x08 address && leb address 0x77
 unfoldable pub creationWith : RegisterFile → ℕ → Reply Hub
 creationWith start address = cond (isHubAddress address) (given (hubWith start address)) (refused 2)
 
-abbrev pub creationOf : ℕ → Reply Hub
-creationOf address = creationWith resetFile address
+abbrev pub creationOf : PowerUp → ℕ → Reply Hub
+creationOf start address = creationWith (powerUpFile start) address
 
 -- the paper's number and value for each case of the answer
 abbrev replyOf : CreationAnswer → Hub → Reply Hub

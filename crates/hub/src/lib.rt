@@ -5,6 +5,8 @@ ghost use Rattle.hub.specs.Hubs.{hubBurst, hubRead, portFrames, withPort
 use formats::Format;
 use registers::PageAccess;
 use registers::RegisterFile;
+use registers::power_up;
+use registers::power_up::PowerUp;
 
 pub mod forwarding;
 
@@ -63,11 +65,11 @@ fn hub_with(address: u8, registers: RegisterFile) -> Hub
     }
 }
 
-// A hub with an own address, at reset.
-pub fn new(address: u8) -> Creation
-    ensures { λ r. ⌜ (creationReply r ≡ creationOf address) × (r .hub ≡ hubAt address) ⌝ }
+// A hub with an own address, as it starts.
+pub fn new(address: u8, start: PowerUp) -> Creation
+    ensures { λ r. ⌜ (creationReply r ≡ creationOf start address) × (r .hub ≡ hubAt start address) ⌝ }
 {
-    let hub = hub_with(address, registers::reset());
+    let hub = hub_with(address, power_up::registers_at(start));
     if is_hub_address(address) {
         return Creation {
             answer: CreationAnswer::Created,

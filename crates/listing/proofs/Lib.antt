@@ -2,3 +2,4 @@ pub mod TextLaws
 pub mod RecordLaws
 pub mod TraceLaws
 pub mod AnswerLaws
+pub mod HubLaws

@@ -9,6 +9,7 @@ use lib.ListN.{length, getD, drop, length-drop}
 use Rattle.laws.specs.Reply.{Reply, refused, given}
 use Rattle.laws.proofs.Absurd.{zero-not-one}
 use Rattle.laws.proofs.Replies.{refused-given, given-same, was-true, then-given}
+use Rattle.registers.specs.declared.power_up.PowerUp.{PowerUp}
 use Rattle.registers.specs.Bursts.{RegisterWrite, burstWrites}
 use Rattle.hub.specs.Hubs.{isHubAddress}
 use Rattle.trace.specs.declared.Record.{Record}
@@ -20,10 +21,10 @@ use Rattle.listing.specs.Listing.{callsText, callsAsked, recordCalls, lo
 use Rattle.listing.proofs.TextLaws.{length-text, length-burst}
 
 -- a hub record that is not refused has an address that a hub may have, and no calls
-pub hub-calls : (address : ℕ) {calls : List RegisterWrite} → callsAsked (hubRecord address) ≡ given calls
+pub hub-calls : (address : ℕ) (start : PowerUp) {calls : List RegisterWrite} → callsAsked (hubRecord address start) ≡ given calls
     → (isHubAddress address ≡ true) × (calls ≡ [])
 unfolding callsAsked
-hub-calls address e = let allowed = was-true 2 (isHubAddress address) e in (allowed .0, cc)
+hub-calls address start e = let allowed = was-true 2 (isHubAddress address) e in (allowed .0, cc)
 
 -- a record after the first that has calls is a write of its data
 pub write-calls : (bytes : List ℕ) {calls : List RegisterWrite} → recordCalls (recordOf false bytes) ≡ given calls
@@ -31,7 +32,7 @@ pub write-calls : (bytes : List ℕ) {calls : List RegisterWrite} → recordCall
     (recordOf false bytes ≡ given (writeRecord (getD d 0 0) (drop 1 d))) × (burstWrites (getD d 0 0) (drop 1 d) ≡ calls)
 unfolding callsAsked
 write-calls bytes {calls} e =
-    by-record P (λ k. zero-not-one (cc)) false bytes (λ f. zero-not-one (cc)) (λ k. (refl, given-same refl k))
+    by-record P (λ k. zero-not-one (cc)) false bytes (λ f start. zero-not-one (cc)) (λ k. (refl, given-same refl k))
     (λ k. zero-not-one (cc)) (λ k. zero-not-one (cc)) (λ k. zero-not-one (cc)) (λ k. zero-not-one (cc)) (λ k. zero-not-one (cc)) (λ k. zero-not-one (cc)) e
   where
     P : Reply TraceRecord → Type 0
@@ -41,13 +42,13 @@ write-calls bytes {calls} e =
 
 -- A record by the text that it has: a hub record, a write, or none.
 data TextForm (bytes : List ℕ) : Record → Type 0 where
-  ofHub : (address : ℕ) → TextForm bytes (Record.Hub address)
+  ofHub : (address : ℕ) (start : PowerUp) → TextForm bytes (Record.Hub address start)
   ofWrite : (offset : ℕ) → TextForm bytes (Record.Write offset)
   noText : {asked : Record} → callsAsked (recordIn bytes asked) ≡ refused 16 → TextForm bytes asked
 
 text-form : (bytes : List ℕ) (asked : Record) → TextForm bytes asked
 unfolding callsAsked
-text-form bytes (Record.Hub address) = ofHub address
+text-form bytes (Record.Hub address start) = ofHub address start
 text-form bytes (Record.Write offset) = ofWrite offset
 text-form bytes (Record.Read offset) = noText refl
 text-form bytes (Record.WriteQuestion address) = noText refl
@@ -58,13 +59,13 @@ text-form bytes (Record.PixelLine port width pixel) = noText refl
 
 module _ (bytes : List ℕ) (asked : Record) where
   -- neither a hub record nor a write
-  pub no-text-form : ((address : ℕ) → asked ≡ Record.Hub address → ⊥) → ((offset : ℕ) → asked ≡ Record.Write offset → ⊥)
+  pub no-text-form : ((address : ℕ) (start : PowerUp) → asked ≡ Record.Hub address start → ⊥) → ((offset : ℕ) → asked ≡ Record.Write offset → ⊥)
       → callsAsked (recordIn bytes asked) ≡ refused 16
   no-text-form hub write = go (text-form bytes asked) hub write
     where
-      go : {r : Record} → TextForm bytes r → ((address : ℕ) → r ≡ Record.Hub address → ⊥) → ((offset : ℕ) → r ≡ Record.Write offset → ⊥)
+      go : {r : Record} → TextForm bytes r → ((address : ℕ) (start : PowerUp) → r ≡ Record.Hub address start → ⊥) → ((offset : ℕ) → r ≡ Record.Write offset → ⊥)
           → callsAsked (recordIn bytes r) ≡ refused 16
-      go (ofHub address) h w = absurd (h address refl)
+      go (ofHub address start) h w = absurd (h address start refl)
       go (ofWrite offset) h w = absurd (w offset refl)
       go (noText e) h w = e
 
@@ -73,7 +74,7 @@ module _ (bytes : List ℕ) (asked : Record) where
   no-calls {calls} write e = go (text-form bytes asked) write e
     where
       go : {r : Record} → TextForm bytes r → ((offset : ℕ) → r ≡ Record.Write offset → ⊥) → callsAsked (recordIn bytes r) ≡ given calls → calls ≡ []
-      go (ofHub address) w k = hub-calls address k .1
+      go (ofHub address start) w k = hub-calls address start k .1
       go (ofWrite offset) w k = absurd (w offset refl)
       go (noText n) w k = refused-given n k
 
@@ -91,7 +92,7 @@ pub data CallsOf (bytes : List ℕ) : Reply (List RegisterWrite) → Type 0 wher
 pub calls-of : (first : Bool) (bytes : List ℕ) → CallsOf bytes (recordCalls (recordOf first bytes))
 unfolding callsAsked
 calls-of first bytes =
-    by-record (λ found. CallsOf bytes (recordCalls found)) noRecord first bytes (λ f. hub (isHubAddress (getD d 0 0))) write noTextForm noTextForm noTextForm noTextForm
+    by-record (λ found. CallsOf bytes (recordCalls found)) noRecord first bytes (λ f start. hub (isHubAddress (getD d 0 0))) write noTextForm noTextForm noTextForm noTextForm
     noTextForm noTextForm
   where
     d : List ℕ

@@ -31,7 +31,7 @@ callsText (call ∷ calls) = callText call ++ callsText calls
 -- the calls of what a record asks: "a burst becoming one line a byte with offsets going round after 0xFF";
 -- "2 in record 1, then 16, a record kind with no text form"
 unfoldable pub callsAsked : TraceRecord → Reply (List RegisterWrite)
-callsAsked (hubRecord address) = cond (isHubAddress address) (given []) (refused 2)
+callsAsked (hubRecord address start) = cond (isHubAddress address) (given []) (refused 2)
 callsAsked (writeRecord offset values) = given (burstWrites offset values)
 callsAsked (readRecord offset) = refused 16
 callsAsked (writeQuestion address) = refused 16

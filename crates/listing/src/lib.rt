@@ -1,11 +1,16 @@
-// The text of a trace: its register writes, as an installer would type them.
+// The text of a trace: its register writes, as an installer would type them; and the hub that it asks for, which the
+// text does not name.
 ghost use mathlib.Core.Path.{_≡_};
 ghost use lib.ListN.{length};
 ghost use Rattle.laws.specs.Reply.{onReply};
 ghost use Rattle.laws.specs.Buffers.{Writes};
 ghost use Rattle.listing.specs.Listing.{traceCalls, traceText, recordText, listingReply};
+ghost use Rattle.listing.specs.TraceHubs.{traceHub, hubReply};
 ghost use Rattle.listing.specs.Contracts.{countReply, bytesIfRoom};
+use registers::power_up::PowerUp;
 use text::CALL_LENGTH;
+use trace::FoundRecord;
+use trace::Record;
 
 mod record;
 mod text;
@@ -25,6 +30,13 @@ pub enum ListingAnswer {
     NoTextForm,
     NoRoom,
     Text(usize),
+}
+
+// The hub that a trace asks for, or why there is none.
+pub enum HubAnswer {
+    NoRecord,
+    AddressOutOfRange,
+    Hub { address: u8, start: PowerUp },
 }
 
 // How many calls the text of a trace has.
@@ -93,4 +105,20 @@ pub fn to_text(trace: &[u8], out: &mut [u8]) -> ListingAnswer
     };
     text::put_records(trace, out);
     answer
+}
+
+// The own address of the hub that a trace asks for, and how it starts: a text made from the trace names neither.
+pub fn hub_of(trace: &[u8]) -> HubAnswer
+    ensures { λ r. ⌜ hubReply r ≡ traceHub (now (trace .entry)) ⌝ }
+{
+    let FoundRecord::Found(asked) = trace::record_at(trace, true) else {
+        return HubAnswer::NoRecord;
+    };
+    let Record::Hub { address, start } = asked else {
+        return HubAnswer::NoRecord;
+    };
+    if hub::is_hub_address(address) {
+        return HubAnswer::Hub { address, start };
+    }
+    HubAnswer::AddressOutOfRange
 }

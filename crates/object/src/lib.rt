@@ -1,5 +1,6 @@
 // The object that show and check print for other programs, one line of JSON, piece by piece; docs/SHOW.md describes it.
 use page::Pen;
+use registers::power_up::PowerUp;
 
 pub mod addresses;
 pub mod ended;
@@ -8,10 +9,19 @@ pub mod findings;
 mod grades;
 pub mod routes;
 
+// How the hub starts.
+fn started(pen: Pen, start: PowerUp) -> Pen {
+    match start {
+        PowerUp::Boot => page::text(pen, b",\"start\":\"board\""),
+        PowerUp::Reset => page::text(pen, b",\"start\":\"sheet\""),
+    }
+}
+
 // The object's first fields.
-pub fn begin(pen: Pen, hub: u8, writes: u64, any_order: bool) -> Pen {
+pub fn begin(pen: Pen, hub: u8, start: PowerUp, writes: u64, any_order: bool) -> Pen {
     let opened = page::text(pen, b"{\"hub\":");
-    let named = fields::quoted_hex(opened, hub);
+    let addressed = fields::quoted_hex(opened, hub);
+    let named = started(addressed, start);
     let counted = page::numbered(named, b",\"writes\":", writes);
     let ordered = page::text(counted, b",\"any_order\":");
     if any_order {

@@ -1,4 +1,4 @@
--- What holds of a register file by its type holds at reset, and after a write.
+-- What holds of a register file by its type holds at reset, as the hub starts, and after a write.
 -- Assumes nothing.
 use mathlib.Core.Path.{_≡_, refl, _∙_}
 use mathlib.Core.Bool.{Bool, true, false}
@@ -11,14 +11,16 @@ use lib.ListN.{length, getD, List·getD-eq-default}
 use Rattle.laws.specs.Elements.{AreBytes}
 use Rattle.laws.proofs.Tables.{tabulate-at}
 use Rattle.registers.specs.declared.RegisterFile.{RegisterFile}
-use Rattle.registers.specs.RegisterMap.{resetOf}
-use Rattle.registers.specs.RegisterFiles.{pageResetAt, resetFile}
+use Rattle.registers.specs.declared.power_up.PowerUp.the-variants.{Boot, Reset}
+use Rattle.registers.specs.RegisterMap.{rows, rowIn, resetOf, perPort, MAX-FRM-HI, MAX-FRM-LO}
+use Rattle.registers.specs.RegisterFiles.{pageResetAt, resetFile, writeRegister}
+use Rattle.registers.specs.PowerUps.{bootFile, powerUpFile}
 use Rattle.registers.specs.Bursts.{writeEach}
 use Rattle.registers.proofs.RegisterMap.{reset-byte}
 use Rattle.registers.proofs.RegisterFiles.{reset-lengths}
 use Rattle.origins.specs.NumberedWrites.{NumberedWrite, unnumberedWrites}
 use Rattle.origins.specs.Origins.{Register, sharedRegister, portRegister, IsRegister, valueAt}
-use Rattle.origins.specs.Origins.{reaches, afterNumbered, FileOfBytes, ResetOfBytes, BytesKept}
+use Rattle.origins.specs.Origins.{reaches, afterNumbered, FileOfBytes, ResetOfBytes, PowerUpOfBytes, BytesKept}
 use Rattle.origins.proofs.OneWrite.{counts, value-byte}
 use Rattle.origins.proofs.Origins.{after-one, byte-after}
 
@@ -71,3 +73,18 @@ pub bytes-kept : BytesKept
 unfolding writeEach unnumberedWrites
 bytes-kept file f [] = f
 bytes-kept file f (write ∷ writes) = bytes-kept (afterNumbered file write) (one-kept file f write) writes
+
+-- the boot code's two writes
+clearing : ℕ → NumberedWrite
+clearing offset = record { number = 0; offset = offset; value = 0 }
+
+boot-written : afterNumbered (afterNumbered resetFile (clearing MAX-FRM-HI)) (clearing MAX-FRM-LO) ≡ bootFile
+unfolding clearing writeRegister perPort rowIn rows bootFile
+boot-written = refl
+
+pub power-up-of-bytes : PowerUpOfBytes
+unfolding powerUpFile
+power-up-of-bytes Boot =
+    let high = afterNumbered resetFile (clearing MAX-FRM-HI) in
+    rw boot-written at (one-kept high (one-kept resetFile reset-of-bytes (clearing MAX-FRM-HI)) (clearing MAX-FRM-LO))
+power-up-of-bytes Reset = reset-of-bytes

@@ -13,7 +13,9 @@ use Rattle.laws.specs.MaskedWrites.{masked}
 use Rattle.registers.specs.declared.RegisterFile.{RegisterFile}
 use Rattle.registers.specs.declared.PageAccess.the-variants.{Selection}
 use Rattle.registers.specs.RegisterMap.{maskOf, perPort}
+use Rattle.registers.specs.declared.power_up.PowerUp.{PowerUp}
 use Rattle.registers.specs.RegisterFiles.{sharedAt, pageAt, resetFile, selection, writeRegister}
+use Rattle.registers.specs.PowerUps.{powerUpFile}
 use Rattle.registers.specs.Bursts.{writeEach}
 use Rattle.origins.specs.NumberedWrites.{NumberedWrite, unnumberedWrites}
 
@@ -109,6 +111,10 @@ pub record FileOfBytes (file : RegisterFile) : Type 0 where
 -- It holds of the registers at reset,
 abbrev pub ResetOfBytes : Type 0
 ResetOfBytes = FileOfBytes resetFile
+
+-- and as they start,
+abbrev pub PowerUpOfBytes : Type 0
+PowerUpOfBytes = (start : PowerUp) → FileOfBytes (powerUpFile start)
 
 -- and of every register file that writes lead to.
 abbrev pub BytesKept : Type 0

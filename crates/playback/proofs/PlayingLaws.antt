@@ -10,6 +10,7 @@ use borrow.Author.Tests.{eqb-false, eq-eqb, ne-eqb}
 use lib.Dec.{eqb}
 use lib.ListN.{length, drop, replicate, length-replicate}
 use Rattle.laws.specs.Reply.{refusedWith}
+use Rattle.registers.specs.declared.power_up.PowerUp.the-variants.{Boot}
 use Rattle.hub.specs.declared.Hub.{Hub}
 use Rattle.hub.specs.Hubs.{hubAt}
 use Rattle.trace.specs.Framing.{recordLength}
@@ -98,4 +99,4 @@ not-eight {detail} (suc n) first hub packets bytes room m =
 
 pub eight-never-occurs : EightNeverOccurs
 eight-never-occurs file detail m =
-    not-eight (length file) true (hubAt 0x08) (replicate packetRoom 0) file (length-replicate {A = ℕ} packetRoom 0) m
+    not-eight (length file) true (hubAt Boot 0x08) (replicate packetRoom 0) file (length-replicate {A = ℕ} packetRoom 0) m

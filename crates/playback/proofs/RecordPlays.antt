@@ -13,7 +13,8 @@ use lib.Seq.{take-append-le}
 use Rattle.laws.specs.Reply.{Reply, refusedWith, given, onReply}
 use Rattle.laws.specs.Buffers.{written}
 use Rattle.laws.proofs.Buffers.{length-written, drop-written, run-eq}
-use Rattle.registers.specs.RegisterFiles.{resetFile}
+use Rattle.registers.specs.declared.power_up.PowerUp.{PowerUp}
+use Rattle.registers.specs.PowerUps.{powerUpFile}
 use Rattle.hub.specs.declared.Hub.{Hub}
 use Rattle.hub.specs.Hubs.{hubAt, isHubAddress, hubBurst}
 use Rattle.hub.proofs.Hubs.{created}
@@ -27,10 +28,10 @@ use Rattle.playback.specs.Contracts.{firstFour}
 
 -- a hub record whose address may be a hub's own, and a write
 module _ (hub : Hub) (packets : List ℕ) where
-  pub hub-played : (address : ℕ) → isHubAddress address ≡ true
-      → playAsked hub packets (hubRecord address) ≡ answering (hubAt address) packets (given (hubMade address))
+  pub hub-played : (address : ℕ) (start : PowerUp) → isHubAddress address ≡ true
+      → playAsked hub packets (hubRecord address start) ≡ answering (hubAt start address) packets (given (hubMade address))
   unfolding playAsked
-  hub-played address e = rw (created resetFile address e)
+  hub-played address start e = rw (created (powerUpFile start) address e)
 
   pub write-played : (offset : ℕ) (values : List ℕ)
       → playAsked hub packets (writeRecord offset values)

@@ -12,7 +12,8 @@ use Rattle.laws.specs.Reply.{Reply, refusedWith, given, onReply}
 use Rattle.laws.proofs.Absurd.{zero-not-one}
 use Rattle.laws.proofs.Buffers.{length-written}
 use Rattle.laws.proofs.Replies.{on-refused}
-use Rattle.registers.specs.RegisterFiles.{resetFile}
+use Rattle.registers.specs.declared.power_up.PowerUp.{PowerUp}
+use Rattle.registers.specs.PowerUps.{powerUpFile}
 use Rattle.hub.specs.declared.Hub.{Hub}
 use Rattle.hub.specs.Hubs.{isHubAddress}
 use Rattle.hub.proofs.Hubs.{created, not-created}
@@ -45,13 +46,13 @@ not-by : (number : ℕ) (other : Option ℕ) → (number ≡ 8 → ⊥) → NotE
 not-by number other h detail e = h cc
 
 module _ (hub : Hub) (packets : List ℕ) where
-  hub-sound : (address : ℕ) → Sound packets (playAsked hub packets (hubRecord address))
+  hub-sound : (address : ℕ) (start : PowerUp) → Sound packets (playAsked hub packets (hubRecord address start))
   unfolding playAsked
-  hub-sound address = go (isHubAddress address) refl
+  hub-sound address start = go (isHubAddress address) refl
     where
-      go : (b : Bool) → isHubAddress address ≡ b → Sound packets (playAsked hub packets (hubRecord address))
-      go true e = rw (created resetFile address e) (record { room = refl; not-eight = λ h. not-given _; short = tt })
-      go false e = rw (not-created resetFile address e) (record { room = refl; not-eight = λ h. not-by 2 _ (λ q. omega arith); short = tt })
+      go : (b : Bool) → isHubAddress address ≡ b → Sound packets (playAsked hub packets (hubRecord address start))
+      go true e = rw (created (powerUpFile start) address e) (record { room = refl; not-eight = λ h. not-given _; short = tt })
+      go false e = rw (not-created (powerUpFile start) address e) (record { room = refl; not-eight = λ h. not-by 2 _ (λ q. omega arith); short = tt })
 
   event-sound : (kind : EventKind) (port : ℕ) (event : Event) → Sound packets (playEvent hub packets kind port event)
   event-sound kind port event = go (eventReply hub event (length packets) 0) (event-fits (length packets) 0 hub event)
@@ -69,7 +70,7 @@ module _ (hub : Hub) (packets : List ℕ) where
 
   asked-sound : (asked : TraceRecord) → Sound packets (playAsked hub packets asked)
   unfolding playAsked
-  asked-sound (hubRecord address) = hub-sound address
+  asked-sound (hubRecord address start) = hub-sound address start
   asked-sound (writeRecord offset values) = record { room = refl; not-eight = λ h. not-given _; short = tt }
   asked-sound (readRecord offset) = record { room = refl; not-eight = λ h. not-given _; short = tt }
   asked-sound (writeQuestion address) =

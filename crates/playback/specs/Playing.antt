@@ -7,6 +7,7 @@ use Prim.Native.Nat.{ℕ, zero, suc, _+_}
 use lib.Dec.{eqb}
 use lib.ListN.{length, take, drop, replicate}
 use Rattle.laws.specs.Reply.{Reply, refusedWith, given, onReply, isRefused}
+use Rattle.registers.specs.declared.power_up.PowerUp.the-variants.{Boot}
 use Rattle.hub.specs.declared.Hub.{Hub}
 use Rattle.hub.specs.Hubs.{hubAt, creationOf, hubBurst, hubRead}
 use Rattle.translation.specs.Translation.{whoHearsWrite, whoAnswersRead}
@@ -49,7 +50,7 @@ playEvent hub packets kind port event =
 
 -- what a record asks is done
 unfoldable pub playAsked : Hub → List ℕ → TraceRecord → Played
-playAsked hub packets (hubRecord address) = playHub hub packets address (creationOf address)
+playAsked hub packets (hubRecord address start) = playHub hub packets address (creationOf start address)
 playAsked hub packets (writeRecord offset values) =
     answering (hubBurst hub offset values) packets (given (valuesWritten offset (length values)))
 playAsked hub packets (readRecord offset) = answering hub packets (given (registerRead offset (hubRead hub offset)))
@@ -96,7 +97,7 @@ packetRoom = 6150
 -- The records of a file: no record has no bytes, so there are at most as many as bytes. (Before record 1 there is no
 -- hub; the one here is not asked.)
 abbrev pub playFile : List ℕ → PlayedRecords
-playFile file = playRecords (length file) true (hubAt 0x08) (replicate packetRoom 0) file
+playFile file = playRecords (length file) true (hubAt Boot 0x08) (replicate packetRoom 0) file
 
 -- the answers to them, and the hub at the end of the file ("end state", L1)
 abbrev pub answersOf : List ℕ → List (Reply Answer)

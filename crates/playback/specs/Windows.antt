@@ -9,6 +9,7 @@ use lib.Dec.{eqb}
 use lib.ListN.{length, drop, replicate}
 use Rattle.laws.specs.Reply.{isRefused}
 use Rattle.laws.specs.Buffers.{written, hasRoom}
+use Rattle.registers.specs.declared.power_up.PowerUp.the-variants.{Boot}
 use Rattle.hub.specs.declared.Hub.{Hub}
 use Rattle.hub.specs.Hubs.{hubAt}
 use Rattle.trace.specs.Framing.{recordLength, holdsRecord}
@@ -21,7 +22,7 @@ use Rattle.playback.specs.Playing.{printedLines, refusedAmong, playerTex
 
 -- the player before record 1
 abbrev pub newSession : Session
-newSession = record { hub = hubAt 0x08; records = 0; refusals = 0; ended = false }
+newSession = record { hub = hubAt Boot 0x08; records = 0; refusals = 0; ended = false }
 
 abbrev pub isFirst : Session → Bool
 isFirst session = eqb (session .records) 0

@@ -2,6 +2,7 @@
 ghost use mathlib.Core.Path.{_≡_};
 ghost use Rattle.playback.specs.Windows.{newSession, stateAt, PlaysWindow};
 use hub::Hub;
+use registers::power_up::PowerUp;
 
 mod event;
 mod record;
@@ -27,7 +28,7 @@ pub struct WindowPlayed {
 pub fn new() -> Session
     ensures { λ r. ⌜ r ≡ newSession ⌝ }
 {
-    let made = hub::new(0x08);
+    let made = hub::new(0x08, PowerUp::Boot);
     let hub = made.hub;
     Session {
         hub,

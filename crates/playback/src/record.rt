@@ -10,6 +10,7 @@ use crate::event;
 use answers::RecordAnswer;
 use hub::CreationAnswer;
 use hub::Hub;
+use registers::power_up::PowerUp;
 use trace::FoundRecord;
 use trace::Record;
 
@@ -21,10 +22,10 @@ pub(crate) struct RecordPlayed {
 }
 
 // The next five touch no packet: whatever the lent packet buffer holds, they play as the definition says.
-fn play_hub(hub: Hub, address: u8) -> RecordPlayed
-    ensures { λ r. ⌜ ((packets : List ℕ) → playedOf r packets ≡ playAsked hub packets (hubRecord address)) ⌝ }
+fn play_hub(hub: Hub, address: u8, start: PowerUp) -> RecordPlayed
+    ensures { λ r. ⌜ ((packets : List ℕ) → playedOf r packets ≡ playAsked hub packets (hubRecord address start)) ⌝ }
 {
-    let made = hub::new(address);
+    let made = hub::new(address, start);
     let answer = made.answer;
     match answer {
         CreationAnswer::AddressOutOfRange => RecordPlayed {
@@ -108,7 +109,7 @@ pub(crate) fn play_found(
             ends: true,
         },
         FoundRecord::Found(record) => match record {
-            Record::Hub { address } => play_hub(hub, address),
+            Record::Hub { address, start } => play_hub(hub, address, start),
             Record::Write { offset } => play_write(hub, offset, trace::values(bytes)),
             Record::Read { offset } => play_read(hub, offset),
             Record::WriteQuestion { address } => play_write_question(hub, address),

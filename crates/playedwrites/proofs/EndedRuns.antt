@@ -11,6 +11,7 @@ use lib.Dec.{eqb}
 use lib.ListN.{length, replicate, length-append}
 use Rattle.laws.specs.Reply.{Reply, refusedWith, refused, refusedAt, given}
 use Rattle.laws.proofs.Absurd.{zero-not-one}
+use Rattle.registers.specs.declared.power_up.PowerUp.the-variants.{Boot}
 use Rattle.hub.specs.Hubs.{hubAt}
 use Rattle.tracewrites.specs.TraceWrites.{TraceWrites, traceWrites}
 use Rattle.answers.specs.Answers.{Answer}
@@ -70,7 +71,7 @@ answered-byte trace earlier last e = go (eqb (length trace) 0) refl
     go : (b : Bool) → eqb (length trace) 0 ≡ b → 1 ≤ length trace
     go true z =
         let zero = eqb-true (length trace) 0 z in
-        let none = no-records (length trace) true (hubAt 0x08) (replicate packetRoom 0) trace zero in
+        let none = no-records (length trace) true (hubAt Boot 0x08) (replicate packetRoom 0) trace zero in
         let empty : [] ≡ earlier ++ (last ∷ []) = sym (ap (λ (p : PlayedRecords). p .answers) none) ∙ e in
         let l = simp length-append at (ap length empty) in
         absurd (omega arith)

@@ -13,7 +13,9 @@ use lib.ListN.{length, getD, drop, replicate}
 use Rattle.laws.specs.Reply.{Reply, refusedWith, refused, refusedAt, given, onReply, andThen}
 use Rattle.laws.proofs.Absurd.{zero-not-one}
 use Rattle.registers.specs.declared.PageAccess.the-variants.{Selection}
-use Rattle.registers.specs.RegisterFiles.{resetFile}
+use Rattle.registers.specs.declared.power_up.PowerUp.{PowerUp}
+use Rattle.registers.specs.declared.power_up.PowerUp.the-variants.{Boot}
+use Rattle.registers.specs.PowerUps.{powerUpFile}
 use Rattle.registers.specs.Bursts.{burstWrites}
 use Rattle.registers.proofs.Bursts.{writes-none, writes-append}
 use Rattle.hub.specs.declared.Hub.{Hub}
@@ -44,14 +46,14 @@ use Rattle.playedwrites.proofs.Endings.{write-not-ending, read-not-endi
 -- The writes so far, and the player's hub: at first there is none, so that the first record may make the hub.
 record Together (first : Bool) (before : TraceWrites) (hub : Hub) : Type 0 where
   address : hub .address ≡ before .hub
-  registers : hub .registers ≡ afterEach resetFile (before .writes)
+  registers : hub .registers ≡ afterEach (powerUpFile (before .start)) (before .writes)
   none : first ≡ true → before .writes ≡ []
 
 -- the end of both, after so many records: the same registers and address, and no record ends the run; or the record
 -- that is refused is the player's last, which ends it
 pub record Given (records : ℕ) (after : TraceWrites) (played : PlayedRecords) : Type 0 where
   pub address : played .hub .address ≡ after .hub
-  pub registers : played .hub .registers ≡ afterEach resetFile (after .writes)
+  pub registers : played .hub .registers ≡ afterEach (powerUpFile (after .start)) (after .writes)
   pub going : NoneEnds records (played .answers)
 
 pub record Refused (records number : ℕ) (detail : Option ℕ) (played : PlayedRecords) : Type 0 where
@@ -87,9 +89,10 @@ ends-here records number hub ending =
     record { earlier = []; answers = refl; count = ap some same; ending = ap (endsRun number) (sym same) ∙ ending }
 
 -- no writes
-none-after : (writes : List NumberedWrite) → writes ≡ [] → resetFile ≡ afterEach resetFile writes
+none-after : (start : PowerUp) (writes : List NumberedWrite) → writes ≡ []
+    → powerUpFile start ≡ afterEach (powerUpFile start) writes
 unfolding unnumberedWrites
-none-after writes e = rw (e, writes-none Selection resetFile)
+none-after start writes e = rw (e, writes-none Selection (powerUpFile start))
 
 -- one record, and what comes after it
 module _ (n records : ℕ) (before : TraceWrites) (hub : Hub) (packets bytes : List ℕ)
@@ -115,26 +118,26 @@ module _ (n records : ℕ) (before : TraceWrites) (hub : Hub) (packets bytes : L
       (later before next lent
       (record { address = a ∙ so .address; registers = r ∙ so .registers; none = λ e. zero-not-one (cc) }))
 
-  one-hub : (address : ℕ) → eqb records 0 ≡ true → One (given (hubRecord address))
+  one-hub : (address : ℕ) → eqb records 0 ≡ true → (start : PowerUp) → One (given (hubRecord address start))
   unfolding afterAsked playAsked creationWith hubWith
-  one-hub address first = go (isHubAddress address)
+  one-hub address first start = go (isHubAddress address)
     where
       ending : endsRun 2 (records + 1) ≡ true
       ending = let zero = eqb-true records 0 first in rw zero
 
       go : (allowed : Bool) →
-          let played = playHub hub packets address (cond allowed (given (hubWith resetFile address)) (refused 2)) in
+          let played = playHub hub packets address (cond allowed (given (hubWith (powerUpFile start) address)) (refused 2)) in
           Ends records
-          (andThen (atRecord (records + 1) (cond allowed (given (withHub address before)) (refused 2)))
+          (andThen (atRecord (records + 1) (cond allowed (given (withHub address start before)) (refused 2)))
           (λ after. afterRecords n (records + 1) after rest))
           (playedThen played (playRecords n false (played .hub) (played .packets) rest))
       go true =
-          ends-later records (given (hubMade address)) tt (afterRecords n (records + 1) (withHub address before) rest)
-          (playRecords n false (hubAt address) packets rest)
-          (later (withHub address before) (hubAt address) packets
+          ends-later records (given (hubMade address)) tt (afterRecords n (records + 1) (withHub address start before) rest)
+          (playRecords n false (hubAt start address) packets rest)
+          (later (withHub address start before) (hubAt start address) packets
           (record {
             address = refl;
-            registers = none-after (before .writes) (so .none first);
+            registers = none-after start (before .writes) (so .none first);
             none = λ e. zero-not-one (cc);
           }))
       go false = ends-here records 2 hub ending
@@ -157,7 +160,7 @@ module _ (n records : ℕ) (before : TraceWrites) (hub : Hub) (packets bytes : L
               written,
               unnumbered-append (before .writes) number,
               unnumbered-as (records + 1) here,
-              writes-append Selection resetFile (unnumberedWrites (before .writes)) here,
+              writes-append Selection (powerUpFile (before .start)) (unnumberedWrites (before .writes)) here,
               so .registers,
             );
         none = λ e. zero-not-one (cc);
@@ -187,7 +190,7 @@ module _ (n records : ℕ) (before : TraceWrites) (hub : Hub) (packets bytes : L
       go false f =
           let a = getD d 0 0 in
           let line = pixelLineEvent a (replicate (getD d 1 0 + 256 * getD d 2 0) (getD d 3 0 + 256 * getD d 4 0)) in
-          by-record One (ends-here records 13 hub refl) false bytes (λ e. zero-not-one (cc)) (one-write a (drop 1 d))
+          by-record One (ends-here records 13 hub refl) false bytes (λ e start. zero-not-one (cc)) (one-write a (drop 1 d))
           (same-later (given (registerRead a (hubRead hub a))) tt hub packets refl refl)
           (same-later (onReply (writeHeard a) (whoHearsWrite hub a)) (write-not-ending records f hub a)
           hub packets refl refl)
@@ -227,8 +230,8 @@ pub trace-ends : (trace : List ℕ) → 1 ≤ length trace → Ends 0 (traceWrit
 unfolding traceWrites hubWith
 trace-ends trace h =
     rw (ne-eqb (length trace) 0 (λ e. omega arith))
-    (go-together (length trace) 0 noWrites (hubAt 0x08) (replicate packetRoom 0) trace
-    (record { address = refl; registers = none-after [] refl; none = λ e. refl }))
+    (go-together (length trace) 0 noWrites (hubAt Boot 0x08) (replicate packetRoom 0) trace
+    (record { address = refl; registers = none-after Boot [] refl; none = λ e. refl }))
 
 -- a trace that has writes has a byte
 pub some-byte : (trace : List ℕ) {writes : TraceWrites} → traceWrites trace ≡ given writes → 1 ≤ length trace

@@ -7,16 +7,16 @@ use Prim.Native.Nat.{ℕ, _+_, _≤_}
 use lib.Dec.{eqb}
 use lib.ListN.{length}
 use Rattle.laws.specs.Reply.{Reply, refused, refusedAt, given}
-use Rattle.registers.specs.RegisterFiles.{resetFile}
+use Rattle.registers.specs.PowerUps.{powerUpFile}
 use Rattle.origins.specs.Origins.{afterEach}
 use Rattle.tracewrites.specs.TraceWrites.{TraceWrites, traceWrites}
 use Rattle.answers.specs.Answers.{Answer}
 use Rattle.playback.specs.Playing.{answersOf, endHub}
 
--- the player ends with a hub that has that address, and the registers after reset and those writes
+-- the player ends with a hub that has that address, and the registers after that start and those writes
 pub record PlaysTo (trace : List ℕ) (writes : TraceWrites) : Type 0 where
   pub address : endHub trace .address ≡ writes .hub
-  pub registers : endHub trace .registers ≡ afterEach resetFile (writes .writes)
+  pub registers : endHub trace .registers ≡ afterEach (powerUpFile (writes .start)) (writes .writes)
 
 abbrev pub WritesArePlayed : Type 0
 WritesArePlayed =

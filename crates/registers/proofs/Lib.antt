@@ -4,3 +4,4 @@ pub mod Bursts
 pub mod PageWrites
 pub mod Selection
 pub mod ByteWrites
+pub mod PowerUps

@@ -9,6 +9,7 @@ ghost use Rattle.registers.specs.Bursts.{nextOffset, writeBurst};
 
 pub mod bits;
 pub mod map;
+pub mod power_up;
 pub mod scl;
 
 // The shared registers, and four pages of 256 registers, one page a port: register o of port p is pages[256 * p + o].
@@ -27,7 +28,7 @@ pub enum PageAccess {
 }
 
 // The shared register takes the writable bits of `value`.
-fn write_shared(file: RegisterFile, offset: u8, value: u8) -> RegisterFile
+pub(crate) fn write_shared(file: RegisterFile, offset: u8, value: u8) -> RegisterFile
     ensures { λ r. ⌜ r ≡ writeShared file offset value ⌝ }
 {
     let at = offset as usize;

@@ -13,6 +13,8 @@ use Rattle.laws.specs.Elements.{AreBytes}
 use Rattle.laws.proofs.Elements.{below-from}
 use Rattle.laws.proofs.Replies.{given-same, then-given, on-given}
 use Rattle.registers.specs.declared.PageAccess.the-variants.{Selection}
+use Rattle.registers.specs.declared.power_up.PowerUp.{PowerUp}
+use Rattle.registers.specs.declared.power_up.PowerUp.the-variants.{Boot}
 use Rattle.registers.specs.Bursts.{RegisterWrite, writeEach}
 use Rattle.registers.proofs.Bursts.{burst-one, writes-none, writes-append}
 use Rattle.registers.proofs.ByteWrites.{AreByteWrites, burst-bytes, more-bytes}
@@ -83,31 +85,31 @@ later-runs (suc n) bytes calls h e = go (eqb (length bytes) 0) refl (later-runs 
         rw (more .2) (write-runs bytes (omega arith) (own .1) (ih (more .0) (omega arith) (more .1)))
 
 -- A trace from its first record on: it makes a hub, and from there the calls end where the trace ends, whatever was before.
-pub record TraceRuns (trace : List ℕ) (address : ℕ) (calls : List RegisterWrite) : Type 0 where
+pub record TraceRuns (trace : List ℕ) (address : ℕ) (start : PowerUp) (calls : List RegisterWrite) : Type 0 where
   pub allowed : isHubAddress address ≡ true
   pub small : AreBytes trace → AreByteWrites calls
-  pub end : (hub : Hub) (packets : List ℕ) → playRecords (length trace) true hub packets trace .hub ≡ hubWrites (hubAt address) calls
+  pub end : (hub : Hub) (packets : List ℕ) → playRecords (length trace) true hub packets trace .hub ≡ hubWrites (hubAt start address) calls
 
 -- a hub record, and what follows it runs
-hub-runs : (trace : List ℕ) (address : ℕ) {later : List RegisterWrite} → 1 ≤ length trace → recordOf true trace ≡ given (hubRecord address)
-    → isHubAddress address ≡ true → Runs (drop (recordLength trace) trace) later → TraceRuns trace address later
-hub-runs trace address some first allowed rest =
+hub-runs : (trace : List ℕ) (address : ℕ) (start : PowerUp) {later : List RegisterWrite} → 1 ≤ length trace → recordOf true trace ≡ given (hubRecord address start)
+    → isHubAddress address ≡ true → Runs (drop (recordLength trace) trace) later → TraceRuns trace address start later
+hub-runs trace address start some first allowed rest =
     record {
       allowed = allowed;
       small = λ small. rest .small (below-from 256 (recordLength trace) trace small);
-      end = λ hub packets. rw (next-record true hub packets trace some, first, hub-played hub packets address allowed) (rest .end (hubAt address) packets);
+      end = λ hub packets. rw (next-record true hub packets trace some, first, hub-played hub packets address start allowed) (rest .end (hubAt start address) packets);
     }
 
-pub trace-runs : (trace : List ℕ) (address : ℕ) {calls : List RegisterWrite} → recordOf true trace ≡ given (hubRecord address) → traceCalls trace ≡ given calls
-    → TraceRuns trace address calls
-trace-runs trace address first e =
+pub trace-runs : (trace : List ℕ) (address : ℕ) (start : PowerUp) {calls : List RegisterWrite} → recordOf true trace ≡ given (hubRecord address start) → traceCalls trace ≡ given calls
+    → TraceRuns trace address start calls
+trace-runs trace address start first e =
     let some : 1 ≤ length trace = omega (arith, some-bytes trace, given-whole true trace first) in
     let rest = drop (recordLength trace) trace in
     let own = then-given (recordCalls (recordOf true trace)) _ (sym (records-join true trace some) ∙ e) in
-    let made = hub-calls address (sym (ap recordCalls first) ∙ own .1) in
+    let made = hub-calls address start (sym (ap recordCalls first) ∙ own .1) in
     let more = on-given (λ (later : List RegisterWrite). own .0 ++ later) _ (sym (own .2)) in
     rw (more .2 ∙ ap (λ (here : List RegisterWrite). here ++ more .0) (made .1))
-    (hub-runs trace address some first (made .0) (later-runs (length rest) rest (more .0) (omega arith) (more .1)))
+    (hub-runs trace address start some first (made .0) (later-runs (length rest) rest (more .0) (omega arith) (more .1)))
 
 -- the trace of calls, from its second record on and as a whole
 module _ (packets : List ℕ) where
@@ -120,13 +122,14 @@ module _ (packets : List ℕ) where
       (writes-end calls (hubBurst hub (call .offset) values)
       ∙ rw (burst-registers hub (call .offset) values, burst-one (call .offset) (call .value), sym (writes-append Selection (hub .registers) (call ∷ []) calls)))
 
-  trace-end : (address : ℕ) (calls : List RegisterWrite) (hub : Hub) → isHubAddress address ≡ true
-      → playRecords (length (traceOf address calls)) true hub packets (traceOf address calls) .hub ≡ hubWrites (hubAt address) calls
-  trace-end address calls hub allowed =
-      let some : 1 ≤ length (traceOf address calls) = omega (arith, trace-length address calls) in
-      rw (next-record true hub packets (traceOf address calls) some, trace-first address calls, hub-played hub packets address allowed, trace-rest address calls)
-      (writes-end calls (hubAt address))
+  trace-end : (address : ℕ) (start : PowerUp) (calls : List RegisterWrite) (hub : Hub) → isHubAddress address ≡ true
+      → playRecords (length (traceOf address start calls)) true hub packets (traceOf address start calls) .hub ≡ hubWrites (hubAt start address) calls
+  trace-end address start calls hub allowed =
+      let some : 1 ≤ length (traceOf address start calls) = omega (arith, trace-length address start calls) in
+      rw (next-record true hub packets (traceOf address start calls) some, trace-first address start calls, hub-played hub packets address start allowed, trace-rest address start calls)
+      (writes-end calls (hubAt start address))
 
 pub calls-are-played : CallsArePlayed
 unfolding hubWith
-calls-are-played address calls allowed = trace-end (replicate packetRoom 0) address calls (hubAt 0x08) allowed
+calls-are-played address start calls allowed =
+    trace-end (replicate packetRoom 0) address start calls (hubAt Boot 0x08) allowed

@@ -1,6 +1,7 @@
 // What was run: the file and the hub, and how many writes there were.
 use page::Pen;
 use page::shown;
+use registers::power_up::PowerUp;
 use std::num::wrapping_add_u64;
 
 // How many register writes there were; of how many the register is not followed; how many went to a per-port register
@@ -26,10 +27,13 @@ fn name(pen: Pen, path: &[u8]) -> Pen {
     shown::bytes(pen, path)
 }
 
-// The file, and the hub's own address.
-pub fn file_on_hub(pen: Pen, path: &[u8], address: u8) -> Pen {
-    let named = name(pen, path);
-    page::line_end(page::hexed(named, b" on hub ", address))
+// The file, the hub's own address, and how it starts.
+pub fn file_on_hub(pen: Pen, path: &[u8], address: u8, start: PowerUp) -> Pen {
+    let named = page::hexed(name(pen, path), b" on hub ", address);
+    match start {
+        PowerUp::Boot => page::line(named, b", as the board starts"),
+        PowerUp::Reset => page::line(named, b", as the data sheet starts"),
+    }
 }
 
 fn not_followed(pen: Pen, count: u64) -> Pen {

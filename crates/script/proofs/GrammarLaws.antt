@@ -14,6 +14,7 @@ use Rattle.laws.specs.Buffers.{hasRoom, countOf}
 use Rattle.laws.proofs.Absurd.{zero-not-one}
 use Rattle.laws.proofs.Replies.{was-true, then-given, room-by, room-given, count-given}
 use Rattle.registers.specs.Bursts.{RegisterWrite}
+use Rattle.registers.specs.declared.power_up.PowerUp.{PowerUp}
 use Rattle.hub.specs.Hubs.{isHubAddress}
 use Rattle.calls.specs.Grammar.{ValueText, oneDigit, twoDigits, IsScriptLine, blank, called}
 use Rattle.calls.specs.ScriptLines.{scriptLineRead}
@@ -87,18 +88,18 @@ one-trace text calls others a b =
 -- a script, a hub's address and room for the trace are what is taken
 pub exactly-such-texts : ExactlySuchTexts
 unfolding scriptTrace
-exactly-such-texts address text size trace = record { every = every; only = only }
+exactly-such-texts address start text size trace = record { every = every; only = only }
   where
-    every : SuchText address text size trace → scriptTrace address text size ≡ given trace
+    every : SuchText address start text size trace → scriptTrace address start text size ≡ given trace
     every t =
         let room : hasRoom size 0 (length trace) ≡ true = le-leb (0 + length trace) size (omega (arith, t .room)) in
         rw (t .allowed, scripts-taken text (t .calls) .every (t .script), sym (t .made)) (room-by size 0 trace (length trace) refl room)
 
-    only : scriptTrace address text size ≡ given trace → SuchText address text size trace
+    only : scriptTrace address start text size ≡ given trace → SuchText address start text size trace
     only e =
         let allowed = was-true 2 (isHubAddress address) e in
         let found = then-given (scriptCalls text) _ (allowed .1) in
-        let fits = room-given size 0 (traceOf address (found .0)) (found .2) in
+        let fits = room-given size 0 (traceOf address start (found .0)) (found .2) in
         record {
           calls = found .0;
           script = scripts-taken text (found .0) .only (found .1);
@@ -108,10 +109,10 @@ exactly-such-texts address text size trace = record { every = every; only = only
         }
 
 -- a trace that is put ends inside the buffer
-pub trace-inside : (address size n : ℕ) (text : List ℕ) → given n ≡ countOf (scriptTrace address text size) → n ≤ size
-trace-inside address size n text e =
-    let found = count-given (scriptTrace address text size) e in
-    omega (arith, found .2, exactly-such-texts address text size (found .0) .only (found .1) .room)
+pub trace-inside : (address : ℕ) (start : PowerUp) (size n : ℕ) (text : List ℕ) → given n ≡ countOf (scriptTrace address start text size) → n ≤ size
+trace-inside address start size n text e =
+    let found = count-given (scriptTrace address start text size) e in
+    omega (arith, found .2, exactly-such-texts address start text size (found .0) .only (found .1) .room)
 
 -- a value has at least 3 bytes
 value-long : {text : List ℕ} {value : ℕ} → ValueText text value → 3 ≤ length text
@@ -135,7 +136,7 @@ text-long (moreLines line text here later l whole short more) =
     omega (arith, length-append line (10 ∷ text), length-append here later)
 
 pub trace-is-short : TraceIsShort
-trace-is-short address text calls script = omega (arith, text-long script, trace-length address calls)
+trace-is-short address start text calls script = omega (arith, text-long script, trace-length address start calls)
 
 -- no text as such is refused without its line
 with-line : (number other : ℕ) (parts : List (List ℕ)) → callsFrom number parts ≡ refused other → ⊥
@@ -155,7 +156,7 @@ with-line number other (part ∷ parts) e =
 
 pub no-eight : NoEight
 unfolding scriptTrace scriptCalls
-no-eight address text size room e = go (isHubAddress address) refl (scriptCalls text) refl
+no-eight address start text size room e = go (isHubAddress address) refl (scriptCalls text) refl
   where
     go : (b : Bool) → isHubAddress address ≡ b → (reply : Reply (List RegisterWrite)) → scriptCalls text ≡ reply → ⊥
     go false p reply q = let told = rw p at e in let z : _≡_ {A = ℕ} 2 8 = cc in omega arith
@@ -164,8 +165,8 @@ no-eight address text size room e = go (isHubAddress address) refl (scriptCalls 
         let same : _≡_ {A = Reply (List RegisterWrite)} (refusedWith n detail) (refused 8) = cc in
         with-line 1 8 (partsOf text) (q ∙ same)
     go true p (given calls) q =
-        let short = trace-is-short address text calls (scripts-taken text calls .only q) in
-        let trace = traceOf address calls in
+        let short = trace-is-short address start text calls (scripts-taken text calls .only q) in
+        let trace = traceOf address start calls in
         let fits = room-by size 0 trace (length trace) refl (le-leb (0 + length trace) size (omega arith)) in
         let told = rw (p, q) at e in
         zero-not-one (cc)

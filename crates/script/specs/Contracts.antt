@@ -11,6 +11,7 @@ use Rattle.script.specs.declared.text.TextRead.{TextRead}
 use Rattle.laws.specs.Reply.{Reply, refusedAt, given}
 use Rattle.buffers.specs.Putting.{Puts}
 use Rattle.registers.specs.Bursts.{RegisterWrite}
+use Rattle.registers.specs.declared.power_up.PowerUp.{PowerUp}
 use Rattle.script.specs.Traces.{writeRecords, traceOf}
 use Rattle.script.specs.Grammar.{noLineFeed}
 use Rattle.script.specs.Reading.{joinedTo, partsOf, callsFrom, scriptCalls}
@@ -46,6 +47,7 @@ PutsCalls text before at after next =
     (calls : List RegisterWrite) → scriptCalls text ≡ given calls → Puts before at (writeRecords calls) after next
 
 -- the trace of a text that is taken was put at the start
-abbrev pub PutsTrace : ℕ → List ℕ → List ℕ → List ℕ → ℕ → Type 0
-PutsTrace address text before after next =
-    (calls : List RegisterWrite) → scriptCalls text ≡ given calls → Puts before 0 (traceOf address calls) after next
+abbrev pub PutsTrace : ℕ → PowerUp → List ℕ → List ℕ → List ℕ → ℕ → Type 0
+PutsTrace address start text before after next =
+    (calls : List RegisterWrite) → scriptCalls text ≡ given calls
+    → Puts before 0 (traceOf address start calls) after next

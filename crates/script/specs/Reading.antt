@@ -1,4 +1,4 @@
--- How a text is read: its lines, the calls in them, and the first refusal (L1).
+-- How a text is read: its lines, the calls in them, and the first refusal (L1, L5).
 -- Assumes nothing.
 use mathlib.Core.Bool.{Bool, true, false, cond}
 use mathlib.Core.List.{List, [], _∷_, _++_}
@@ -9,6 +9,7 @@ use lib.ListN.{length}
 use Rattle.laws.specs.Reply.{Reply, refused, refusedAt, refusedWith, given, onReply, andThen}
 use Rattle.laws.specs.Buffers.{ifRoom}
 use Rattle.registers.specs.Bursts.{RegisterWrite}
+use Rattle.registers.specs.declared.power_up.PowerUp.{PowerUp}
 use Rattle.hub.specs.Hubs.{isHubAddress}
 use Rattle.calls.specs.ScriptLines.{scriptLineRead}
 use Rattle.script.specs.declared.TraceAnswer.{TraceAnswer}
@@ -63,13 +64,13 @@ unfoldable pub scriptCalls : List ℕ → Reply (List RegisterWrite)
 scriptCalls text = callsFrom 1 (partsOf text)
 
 -- the trace of calls, from the start of a buffer of that size; "8 last"
-abbrev pub traceIfRoom : ℕ → ℕ → Reply (List RegisterWrite) → Reply (List ℕ)
-traceIfRoom address size calls = andThen calls (λ taken. ifRoom size 0 (traceOf address taken))
+abbrev pub traceIfRoom : ℕ → PowerUp → ℕ → Reply (List RegisterWrite) → Reply (List ℕ)
+traceIfRoom address start size calls = andThen calls (λ taken. ifRoom size 0 (traceOf address start taken))
 
 -- the trace of a text: "2 for the hub's address, first; then by line 15 [...] before 14 [...]; 8 last"
-unfoldable pub scriptTrace : ℕ → List ℕ → ℕ → Reply (List ℕ)
-scriptTrace address text size =
-    cond (isHubAddress address) (traceIfRoom address size (scriptCalls text)) (refused 2)
+unfoldable pub scriptTrace : ℕ → PowerUp → List ℕ → ℕ → Reply (List ℕ)
+scriptTrace address start text size =
+    cond (isHubAddress address) (traceIfRoom address start size (scriptCalls text)) (refused 2)
 
 -- the paper's number and values for each case of the answer
 abbrev pub traceAnswerReply : TraceAnswer → Reply ℕ

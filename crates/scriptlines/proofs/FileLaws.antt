@@ -2,7 +2,7 @@
 -- Assumes nothing.
 use mathlib.Core.Path.{_≡_, refl, sym, ap, _∙_}
 use mathlib.Core.Bool.{Bool, true, false, cond, not}
-use mathlib.Core.List.{List, [], _∷_, _++_, append-nil}
+use mathlib.Core.List.{List, [], _++_, append-nil}
 use Prim.Native.Nat.{ℕ, _+_, _≤_, _<_}
 use native.Mathlib.Nat.{zero-add}
 use native.Mathlib.Omega.{arith}
@@ -16,7 +16,9 @@ use Rattle.laws.proofs.Buffers.{read-written}
 use Rattle.streams.specs.Streams.{wayFrom, allTurns, Result, ByWindows}
 use Rattle.streams.proofs.StreamLaws.{however-read}
 use Rattle.trace.specs.Framing.{recordBytes}
+use Rattle.trace.specs.Records.{hubData}
 use Rattle.registers.specs.Bursts.{RegisterWrite}
+use Rattle.registers.specs.declared.power_up.PowerUp.{PowerUp}
 use Rattle.script.specs.Grammar.{longestScriptLine}
 use Rattle.script.specs.Traces.{writeRecords, traceOf}
 use Rattle.script.specs.Reading.{restReply, partsOf, callsFrom, scriptCalls, traceIfRoom, scriptTrace}
@@ -104,11 +106,12 @@ put-end done put = go (eqb (done .refusal) 0)
     go false = refl
 
 -- the records of calls after the hub record are their trace
-trace-made : (address size : ℕ) (calls : Reply (List RegisterWrite))
-    → andThen (onReply writeRecords calls) (λ put. ifRoom size 0 (recordBytes 0x00 (address ∷ []) ++ put)) ≡ traceIfRoom address size calls
+trace-made : (address : ℕ) (start : PowerUp) (size : ℕ) (calls : Reply (List RegisterWrite))
+    → andThen (onReply writeRecords calls) (λ put. ifRoom size 0 (recordBytes 0x00 (hubData address start) ++ put))
+    ≡ traceIfRoom address start size calls
 unfolding traceOf
-trace-made address size (refusedWith number detail) = refl
-trace-made address size (given calls) = refl
+trace-made address start size (refusedWith number detail) = refl
+trace-made address start size (given calls) = refl
 
 pub script-however-cut : ScriptHoweverCut
 unfolding scriptCalls scriptTrace
@@ -117,4 +120,4 @@ script-however-cut text size inputs small holds lend few =
     (omega arith) (omega arith) (omega arith) lend few in
     let way = allTurns takingLines size (wayFrom noLinesDone text) inputs in
     let records : recordsReply (way .state) (way .put) ≡ onReply writeRecords (scriptCalls text) = sym (put-end (way .state) (way .put)) ∙ end .1 in
-    record { done = end .0; records = records; trace = λ address room allowed. rw (records, allowed) (trace-made address room (scriptCalls text)) }
+    record { done = end .0; records = records; trace = λ address start room allowed. rw (records, allowed) (trace-made address start room (scriptCalls text)) }

@@ -3,16 +3,18 @@
 -- Assumes nothing.
 use mathlib.Core.Path.{_≡_}
 use mathlib.Core.Bool.{Bool, true, cond, not}
-use mathlib.Core.List.{List, [], _∷_, _++_}
+use mathlib.Core.List.{List, _++_}
 use Prim.Native.Nat.{ℕ, _+_, _*_, _^_, _≤_, _<_}
 use lib.Dec.{eqb}
 use lib.ListN.{length, take}
 use Rattle.laws.specs.Reply.{Reply, refusedAt, given, onReply, andThen}
 use Rattle.laws.specs.Buffers.{written, ifRoom}
+use Rattle.registers.specs.declared.power_up.PowerUp.{PowerUp}
 use Rattle.hub.specs.Hubs.{isHubAddress}
 use Rattle.streams.specs.Streams.{newWindow, afterRead, nothingLeft, Work, Way, wayFrom, TurnInput, allTurns, AllLend}
 use Rattle.streams.specs.Streams.{StandsAt, ReadGave, IsNextTurn}
 use Rattle.trace.specs.Framing.{recordBytes}
+use Rattle.trace.specs.Records.{hubData}
 use Rattle.script.specs.Grammar.{longestScriptLine}
 use Rattle.script.specs.Traces.{writeRecords}
 use Rattle.script.specs.Reading.{scriptCalls, scriptTrace}
@@ -85,9 +87,10 @@ recordsReply done put = cond (eqb (done .refusal) 0) (given put) (refusedAt (don
 pub record TakesScript (text : List ℕ) (end : Way LinesDone) : Type 0 where
   pub done : end .done ≡ true
   pub records : recordsReply (end .state) (end .put) ≡ onReply writeRecords (scriptCalls text)
-  pub trace : (address size : ℕ) → isHubAddress address ≡ true
-      → andThen (recordsReply (end .state) (end .put)) (λ put. ifRoom size 0 (recordBytes 0x00 (address ∷ []) ++ put))
-      ≡ scriptTrace address text size
+  pub trace : (address : ℕ) (start : PowerUp) (size : ℕ) → isHubAddress address ≡ true
+      → andThen (recordsReply (end .state) (end .put))
+      (λ put. ifRoom size 0 (recordBytes 0x00 (hubData address start) ++ put))
+      ≡ scriptTrace address start text size
 
 -- However the bytes of a script are read, into a buffer of any size over that of a line: the work ends within so many
 -- turns, and comes to what the whole text comes to.

@@ -13,9 +13,11 @@ use Rattle.laws.specs.Tables.{tabulate, tabulateFrom}
 use Rattle.laws.proofs.Tables.{allBelow, below-at}
 use Rattle.registers.specs.declared.RegisterFile.{RegisterFile}
 use Rattle.registers.specs.declared.PageAccess.the-variants.{Selection}
+use Rattle.registers.specs.declared.power_up.PowerUp.the-variants.{Reset}
 use Rattle.registers.specs.RegisterMap.{rows, rowIn, resetOf, maskOf, perPort, FWD-CTL1, FPD3-PORT-SEL}
 use Rattle.registers.specs.RegisterFiles.{sharedAt, pageResetAt, resetFile}
 use Rattle.registers.specs.RegisterFiles.{writeShared, writePage, writePorts, writeRegister}
+use Rattle.registers.specs.PowerUps.{powerUpFile}
 use Rattle.registers.specs.Bursts.{burstWrites, writeEach}
 use Rattle.hub.specs.Hubs.{hubAt}
 use Rattle.hub.proofs.Hubs.{start-registers, start-lengths}
@@ -56,7 +58,7 @@ pub premises-met : PremisesMet
 premises-met =
     record {
       blocks = two-blocks;
-      alike = demand-3 (hubAt 0x3D) (start-lengths 0x3D)
+      alike = demand-3 (hubAt Reset 0x3D) (start-lengths Reset 0x3D)
           (passThrough03 ∷ channels1 ∷ []) (channels1 ∷ passThrough03 ∷ []) two-blocks (List·Permᴰ·swap refl refl) .0;
     }
 
@@ -64,12 +66,12 @@ premises-met =
 after : Block → Block → RegisterFile
 after a b = writeEach Selection resetFile (allWrites (a ∷ b ∷ []))
 
-after-two : (a b : Block) → runBlocks (hubAt 0x3D) (a ∷ b ∷ []) .registers ≡ after a b
-unfolding after
-after-two a b = rw (blocks-registers (hubAt 0x3D) (a ∷ b ∷ []), start-registers resetFile 0x3D)
+after-two : (a b : Block) → runBlocks (hubAt Reset 0x3D) (a ∷ b ∷ []) .registers ≡ after a b
+unfolding after powerUpFile
+after-two a b = rw (blocks-registers (hubAt Reset 0x3D) (a ∷ b ∷ []), start-registers (powerUpFile Reset) 0x3D)
 
 abbrev EndAlike : Block → Block → Type 0
-EndAlike a b = Alike (runBlocks (hubAt 0x3D) (a ∷ b ∷ [])) (runBlocks (hubAt 0x3D) (b ∷ a ∷ []))
+EndAlike a b = Alike (runBlocks (hubAt Reset 0x3D) (a ∷ b ∷ [])) (runBlocks (hubAt Reset 0x3D) (b ∷ a ∷ []))
 
 same-page : (a b : Block) (index : ℕ) → EndAlike a b → getD (after a b .pages) index 0 ≡ getD (after b a .pages) index 0
 same-page a b index h = rw (after-two a b, after-two b a) at (ap (λ (l : List ℕ). getD l index 0) (h .pages))

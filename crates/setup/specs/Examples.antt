@@ -6,13 +6,14 @@ use Prim.Native.Nat.{ℕ, _≤_, _<_}
 use lib.ListN.{length}
 use Rattle.hub.specs.declared.Hub.{Hub}
 use Rattle.hub.specs.Hubs.{hubAt}
+use Rattle.registers.specs.declared.power_up.PowerUp.the-variants.{Reset}
 use Rattle.registers.specs.Bursts.{AllPerPort}
 use Rattle.setup.specs.SetupBlocks.{Burst, Block, runBlocks, blockWrites, StartsWithSelection, laterWrites}
 use Rattle.setup.specs.SetupBlocks.{selecting, SetupBlocks}
 use Rattle.setup.specs.Demand3.{Alike}
 
 abbrev start : Hub
-start = hubAt 0x3D
+start = hubAt Reset 0x3D
 
 -- one register write
 abbrev write : ℕ → ℕ → Burst

@@ -158,7 +158,9 @@ pub(crate) fn print(reading: Reading, path: &[u8], facts: Facts) -> Pen {
     let hub = facts.hub;
     let state = facts.state;
     let counts = facts.counts;
-    let named = title::file_on_hub(page::start(), path, reading.address);
+    let given = reading.hub;
+    let start = given.start;
+    let named = title::file_on_hub(page::start(), path, given.address, start);
     let things = facts::count_wrong(facts);
     let counted = closing::count_of_things(named, facts::write_counts(facts), things);
     let told = wrong(reading, path, counted, hub, state, facts.ticks, counts);

@@ -8,6 +8,7 @@ use hub::Hub;
 use ordering::ticks::Ticks;
 use origins::RegistersWithOrigins;
 use registers::RegisterFile;
+use registers::power_up::PowerUp;
 use screens::bus::Lost;
 use screens::title::WriteCounts;
 use std::num::wrapping_add_u64;
@@ -25,9 +26,9 @@ pub(crate) struct Facts {
     pub lost: Lost,
 }
 
-// A hub with that address and those registers.
+// A hub with that address and those registers, which take the place of those that it starts with.
 pub(crate) fn hub_with(address: u8, registers: RegisterFile) -> Hub {
-    let made = hub::new(address);
+    let made = hub::new(address, PowerUp::Boot);
     let mut hub = made.hub;
     hub.registers = registers;
     hub
@@ -42,7 +43,7 @@ fn hub_at(address: u8, known: WritesSoFar) -> Hub {
 pub(crate) fn of(run: Run) -> Facts {
     let known = run.known;
     let found = survey::at_end(run.told);
-    let hub = hub_at(run.address, known);
+    let hub = hub_at(run.hub.address, known);
     let state = known.numbers;
     let order = known.order;
     let ticks = order.ticks;

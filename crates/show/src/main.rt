@@ -26,7 +26,9 @@ use facts::Facts;
 use libc::STDERR_FILENO;
 use page::Pen;
 use reading::Reading;
+use registers::power_up::PowerUp;
 use source::Source;
+use told::HubStart;
 use walk::Run;
 
 // What is asked for: the screen of show or of check, or the object for either.
@@ -102,10 +104,11 @@ fn tell(asked: Asked, file: File, path: &[u8], run: Run) -> Status {
     let command = command_of(asked);
     let known = run.known;
     let whole = known.extent;
+    let hub = run.hub;
     let reading = Reading {
         command,
         file,
-        address: run.address,
+        hub,
         whole,
     };
     let facts = facts::of(run);
@@ -114,11 +117,11 @@ fn tell(asked: Asked, file: File, path: &[u8], run: Run) -> Status {
 }
 
 // Answers what the open file comes to.
-fn answer(asked: Asked, file: File, path: &[u8], address: u8) -> Status {
+fn answer(asked: Asked, file: File, path: &[u8], hub: HubStart) -> Status {
     let command = command_of(asked);
     let mut buffer = io::large_buffer();
     let mut values = io::buffer();
-    let end = reading::survey(command, file, path, address, &mut buffer, &mut values);
+    let end = reading::survey(command, file, path, hub, &mut buffer, &mut values);
     if end.failed || !end.over {
         return Status::Failed;
     }
@@ -130,7 +133,7 @@ fn answer(asked: Asked, file: File, path: &[u8], address: u8) -> Status {
 }
 
 // A file that cannot be read again is copied first.
-fn answer_file(asked: Asked, fd: i32, path: &[u8], is_trace: bool, address: u8) -> Status {
+fn answer_file(asked: Asked, fd: i32, path: &[u8], is_trace: bool, hub: HubStart) -> Status {
     let command = command_of(asked);
     let start = libc::lseek(fd, 0, libc::SEEK_CUR);
     if 0 <= start {
@@ -139,7 +142,7 @@ fn answer_file(asked: Asked, fd: i32, path: &[u8], is_trace: bool, address: u8) 
             start,
             is_trace,
         };
-        return answer(asked, file, path, address);
+        return answer(asked, file, path, hub);
     }
     if os::errno() != libc::ESPIPE {
         input::say_unread(command, path);
@@ -154,13 +157,13 @@ fn answer_file(asked: Asked, fd: i32, path: &[u8], is_trace: bool, address: u8) 
         start: 0,
         is_trace,
     };
-    let status = answer(asked, file, path, address);
+    let status = answer(asked, file, path, hub);
     libc::close(copy);
     status
 }
 
 // Answers for the file that an argument names.
-fn answer_argument(asked: Asked, argument: usize, is_trace: bool, address: u8) -> Status {
+fn answer_argument(asked: Asked, argument: usize, is_trace: bool, hub: HubStart) -> Status {
     let command = command_of(asked);
     let mut path = io::buffer();
     let length = os::arg(argument, &mut path);
@@ -172,16 +175,16 @@ fn answer_argument(asked: Asked, argument: usize, is_trace: bool, address: u8) -
     if fd < 0 {
         return Status::Failed;
     }
-    let status = answer_file(asked, fd, &path[..length], is_trace, address);
+    let status = answer_file(asked, fd, &path[..length], is_trace, hub);
     libc::close(fd);
     status
 }
 
-// Answers for a script on a hub whose address an argument gives.
-fn answer_script(asked: Asked) -> Status {
+// Answers for a script on a hub that starts so, and whose address an argument gives.
+fn answer_script(asked: Asked, start: PowerUp) -> Status {
     let command = command_of(asked);
     let mut word = io::buffer();
-    let length = os::arg(2, &mut word);
+    let length = os::arg(3, &mut word);
     match address::of_word(&word[..length]) {
         Address::NotTwoDigits => {
             address::say_form(command);
@@ -192,22 +195,47 @@ fn answer_script(asked: Asked) -> Status {
             if number != 0 {
                 return not_taken(asked, address::refuse(command, given, number));
             }
-            answer_argument(asked, 3, false, given)
+            let hub = HubStart {
+                address: given,
+                start,
+            };
+            answer_argument(asked, 4, false, hub)
         }
     }
 }
 
-// A script on a hub, or a trace, by the count of words.
+// A script on a hub, with a word for how it starts, or a trace, which says both itself.
 fn answer_words(asked: Asked, words: usize) -> Status {
-    if words == 4 {
-        return answer_script(asked);
+    if words == 3 {
+        let hub = HubStart {
+            address: 0x08,
+            start: PowerUp::Boot,
+        };
+        return answer_argument(asked, 2, true, hub);
     }
-    answer_argument(asked, 2, true, 0x08)
+    let mut word = io::buffer();
+    let length = os::arg(2, &mut word);
+    if check::same(&word[..length], b"board") {
+        return answer_script(asked, PowerUp::Boot);
+    }
+    if check::same(&word[..length], b"sheet") {
+        return answer_script(asked, PowerUp::Reset);
+    }
+    say_use()
+}
+
+// Says how the program is run.
+fn say_use() -> Status {
+    io::write_all(
+        STDERR_FILENO,
+        b"show: ./loopcinder runs this program, as: show show board|sheet ADDRESS SCRIPT, or: show show TRACE\n",
+    );
+    Status::Failed
 }
 
 // The program's work, by the words that it was given.
 fn run(word: &[u8], words: usize) -> Status {
-    if words == 3 || words == 4 {
+    if words == 3 || words == 5 {
         if check::same(word, b"show") {
             return answer_words(Asked::Show, words);
         }
@@ -221,11 +249,7 @@ fn run(word: &[u8], words: usize) -> Status {
             return answer_words(Asked::CheckObject, words);
         }
     }
-    io::write_all(
-        STDERR_FILENO,
-        b"show: ./loopcinder runs this program, as: show show ADDRESS SCRIPT, or: show show TRACE\n",
-    );
-    Status::Failed
+    say_use()
 }
 
 fn main() {

@@ -2,6 +2,7 @@
 use crate::facts::Facts;
 use crate::reading;
 use crate::reading::Reading;
+use crate::told::HubStart;
 use crate::told::Task;
 use hub::Hub;
 use object::ended;
@@ -40,8 +41,15 @@ fn notes(reading: Reading, path: &[u8], list: Listed) -> Listed {
 }
 
 // Up to the findings.
-fn begin(address: u8, facts: Facts, hub: Hub, state: RegistersWithOrigins) -> Listed {
-    let begun = object::begin(page::start(), address, facts.writes, facts.any_order);
+fn begin(given: HubStart, facts: Facts, hub: Hub, state: RegistersWithOrigins) -> Listed {
+    let start = given.start;
+    let begun = object::begin(
+        page::start(),
+        given.address,
+        start,
+        facts.writes,
+        facts.any_order,
+    );
     let routes = object::routes::all(begun, hub, state);
     let addresses = object::addresses::all(routes, hub, state);
     page::new_list(object::begin_findings(addresses))
@@ -50,7 +58,8 @@ fn begin(address: u8, facts: Facts, hub: Hub, state: RegistersWithOrigins) -> Li
 pub(crate) fn print(reading: Reading, path: &[u8], facts: Facts) -> Pen {
     let hub = facts.hub;
     let state = facts.state;
-    let begun = begin(reading.address, facts, hub, state);
+    let given = reading.hub;
+    let begun = begin(given, facts, hub, state);
     let wrong = wrong_or_meant(reading, path, hub, state, begun);
     let noted = notes(reading, path, wrong);
     let told = ended::no_address(noted, hub, state);

@@ -1,6 +1,7 @@
 // Ways through the writes: a first one that counts everything, and others that tell something.
 use crate::telling;
 use crate::told;
+use crate::told::HubStart;
 use crate::told::Job;
 use crate::told::Task;
 use crate::told::Told;
@@ -13,11 +14,11 @@ use ordering::inside;
 use ordering::inside::Extent;
 use page::Listed;
 
-// What every way needs: the command, the file, the hub's own address, and the extent of all writes.
+// What every way needs: the command, the file, the hub's own address and start, and the extent of all writes.
 pub(crate) struct Reading {
     pub command: Command,
     pub file: File,
-    pub address: u8,
+    pub hub: HubStart,
     pub whole: Extent,
 }
 
@@ -26,7 +27,7 @@ pub(crate) fn survey(
     command: Command,
     file: File,
     path: &[u8],
-    address: u8,
+    hub: HubStart,
     buffer: &mut [u8],
     values: &mut [u8],
 ) -> Walk {
@@ -37,7 +38,7 @@ pub(crate) fn survey(
         whole,
     };
     let told = told::nothing(page::new_list(page::start()));
-    walk::through(command, job, path, address, told, buffer, values)
+    walk::through(command, job, path, hub, told, buffer, values)
 }
 
 // What was told at the end of a way.
@@ -50,19 +51,12 @@ pub(crate) fn tell(reading: Reading, path: &[u8], task: Task, list: Listed) -> L
     let command = reading.command;
     let file = reading.file;
     let whole = reading.whole;
+    let hub = reading.hub;
     let job = Job { task, file, whole };
     let mut buffer = io::large_buffer();
     let mut values = io::buffer();
     let told = told::nothing(list);
-    let walk = walk::through(
-        command,
-        job,
-        path,
-        reading.address,
-        told,
-        &mut buffer,
-        &mut values,
-    );
+    let walk = walk::through(command, job, path, hub, told, &mut buffer, &mut values);
     if walk.failed {
         return page::new_list(page::stopped());
     }

@@ -3,6 +3,7 @@ use crate::facts;
 use crate::facts::Facts;
 use crate::reading;
 use crate::reading::Reading;
+use crate::told::HubStart;
 use crate::told::Task;
 use hub::Hub;
 use origins::RegistersWithOrigins;
@@ -17,8 +18,9 @@ use words::kinds::Kind;
 use words::numbers;
 
 // What was run.
-fn begin(address: u8, path: &[u8], facts: Facts) -> Pen {
-    let named = title::file_on_hub(page::start(), path, address);
+fn begin(given: HubStart, path: &[u8], facts: Facts) -> Pen {
+    let start = given.start;
+    let named = title::file_on_hub(page::start(), path, given.address, start);
     title::writes(named, facts::write_counts(facts))
 }
 
@@ -41,7 +43,8 @@ fn limits(reading: Reading, path: &[u8], pen: Pen, not_followed: u64) -> Pen {
 
 pub(crate) fn print(reading: Reading, path: &[u8], facts: Facts) -> Pen {
     let is_trace = reading.file.is_trace;
-    let begun = begin(reading.address, path, facts);
+    let given = reading.hub;
+    let begun = begin(given, path, facts);
     let told = tables(begun, is_trace, facts.hub, facts.state, facts.lost);
     let counts = facts::write_counts(facts);
     let ordered = closing::order(told, is_trace, facts.any_order, counts);

@@ -2,6 +2,7 @@
 use console::input;
 use console::input::Read;
 use console::say::Command;
+use registers::power_up::PowerUp;
 use scriptlines::ScriptFile;
 use scriptwrites::NextWrite;
 use tracewrites::NextRecord;
@@ -14,10 +15,14 @@ pub(crate) struct Source {
     pub trace: TraceFile,
 }
 
-// What comes next: no write; the hub's own address; or so many writes with one number, whose values are lent.
+// What comes next: no write; the hub's own address and its start; or so many writes with one number, whose values are
+// lent.
 pub(crate) enum Next {
     Nothing,
-    Hub(u8),
+    Hub {
+        address: u8,
+        start: PowerUp,
+    },
     Writes {
         number: u64,
         offset: u8,
@@ -97,7 +102,7 @@ fn script_turn(source: Source, got: usize, buffer: &mut [u8], values: &mut [u8])
 fn from_record(record: NextRecord) -> Next {
     match record {
         NextRecord::NoRecord => Next::Nothing,
-        NextRecord::Hub { address } => Next::Hub(address),
+        NextRecord::Hub { address, start } => Next::Hub { address, start },
         NextRecord::Write {
             number,
             offset,

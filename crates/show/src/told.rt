@@ -2,6 +2,7 @@
 use checklist::typed::File;
 use ordering::inside::Extent;
 use page::Listed;
+use registers::power_up::PowerUp;
 use screens::bus::Lost;
 use std::num::wrapping_add_u64;
 use words::kinds::Kind;
@@ -18,6 +19,12 @@ pub(crate) enum Task {
     NoPort(u64),
     Numbers(Kind),
     OddAliases,
+}
+
+// The hub's own address, and how it starts.
+pub(crate) struct HubStart {
+    pub address: u8,
+    pub start: PowerUp,
 }
 
 // The task, the file, and the extent of all writes.

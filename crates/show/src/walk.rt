@@ -4,6 +4,7 @@ use crate::source;
 use crate::source::Next;
 use crate::source::Source;
 use crate::telling;
+use crate::told::HubStart;
 use crate::told::Job;
 use crate::told::Told;
 use crate::told::Write;
@@ -11,12 +12,14 @@ use console::input;
 use console::say;
 use console::say::Command;
 use findings::WritesSoFar;
+use registers::power_up;
 use std::num::wrapping_add_u8;
 use std::num::wrapping_add_u64;
 
-// After some writes: the hub's own address, how many writes there were, what is known after them, and what was told.
+// After some writes: the hub's own address and start, how many writes there were, what is known after them, and what
+// was told.
 pub(crate) struct Run {
-    pub address: u8,
+    pub hub: HubStart,
     pub writes: u64,
     pub known: WritesSoFar,
     pub told: Told,
@@ -30,14 +33,15 @@ pub(crate) struct Walk {
     pub failed: bool,
 }
 
-// Before the first write, on a hub at reset.
-fn begin(is_trace: bool, address: u8, told: Told) -> Walk {
+// Before the first write, on a hub as it starts.
+fn begin(is_trace: bool, hub: HubStart, told: Told) -> Walk {
     let source = source::begin(is_trace);
-    let known = findings::start(registers::reset());
+    let start = hub.start;
+    let known = findings::start(power_up::registers_at(start));
     Walk {
         source,
         run: Run {
-            address,
+            hub,
             writes: 0,
             known,
             told,
@@ -60,11 +64,12 @@ fn take_write(command: Command, job: Job, run: Run, write: Write) -> Run {
     let before = run.known;
     let task = job.task;
     let file = job.file;
-    let found = found::at(before, run.address, job.whole, write);
+    let found = found::at(before, run.hub.address, job.whole, write);
     let told = telling::at_write(task, file, run.told, found);
     let known = findings::step(before, write.number, write.offset, write.value);
+    let hub = run.hub;
     Run {
-        address: run.address,
+        hub,
         writes: wrapping_add_u64(run.writes, 1),
         known,
         told,
@@ -101,8 +106,11 @@ fn take(command: Command, job: Job, run: Run, came: Next, values: &[u8]) -> Run 
     let mut next = run;
     match came {
         Next::Nothing => next,
-        Next::Hub(address) => {
-            next.address = address;
+        Next::Hub { address, start } => {
+            let known = findings::start(power_up::registers_at(start));
+            let hub = HubStart { address, start };
+            next.hub = hub;
+            next.known = known;
             next
         }
         Next::Writes {
@@ -152,17 +160,17 @@ fn take_all(
     walk
 }
 
-// Goes through the file from its start, on a hub with that address unless the file has another.
+// Goes through the file from its start, on that hub unless the file has another.
 pub(crate) fn through(
     command: Command,
     job: Job,
     path: &[u8],
-    address: u8,
+    hub: HubStart,
     told: Told,
     buffer: &mut [u8],
     values: &mut [u8],
 ) -> Walk {
-    let begun = begin(job.file.is_trace, address, told);
+    let begun = begin(job.file.is_trace, hub, told);
     if libc::lseek(job.file.fd, job.file.start, libc::SEEK_SET) < 0 {
         input::say_unread(command, path);
         return failed(begun);

@@ -8,9 +8,11 @@ use borrow.Author.Tests.{ne-eqb}
 use lib.Dec.{eqb}
 use lib.ListN.{length, getD, drop}
 use Rattle.laws.specs.Reply.{Reply, refused, given}
+use Rattle.registers.specs.declared.power_up.PowerUp.{PowerUp}
+use Rattle.registers.specs.declared.power_up.PowerUp.the-variants.{Boot, Reset}
 use Rattle.trace.specs.Framing.{holdsRecord, hasMark, kindByte, dataOf}
 use Rattle.trace.specs.Records.{TraceRecord, hubRecord, writeRecord, readRecord, writeQuestion, readQuestion, startRecord, endRecord, pixelLineRecord}
-use Rattle.trace.specs.Records.{questionRecord, KindRow, kindRows, kindRowIn, kindRow, lengthAllowed, kindRecord, recordOf}
+use Rattle.trace.specs.Records.{hubAsked, questionRecord, KindRow, kindRows, kindRowIn, kindRow, lengthAllowed, kindRecord, recordOf}
 
 -- what a `match` on the kind leaves for its last arm: no row has the kind
 abbrev pub NoRow : Type 0 → List KindRow → ℕ → Type 0
@@ -46,7 +48,7 @@ module _ (P : Reply TraceRecord → Type 0) where
         go false later = later
 
     -- a record of a kind; the hub record is the first alone
-    by-kind : (first : Bool) (kind : ℕ) (bytes : List ℕ) → (first ≡ true → P (given (hubRecord (getD bytes 0 0))))
+    by-kind : (first : Bool) (kind : ℕ) (bytes : List ℕ) → (first ≡ true → P (hubAsked bytes))
         → Asked (drop 1 kindRows) bytes → P (kindRecord first kind bytes)
     unfolding kindRows kindRecord kindRowIn
     by-kind true kind bytes hub later = either (eqb kind 0x00 && lengthAllowed kind (length bytes)) (by-row kindRows kind bytes (hub refl, later)) none
@@ -57,10 +59,15 @@ module _ (P : Reply TraceRecord → Type 0) where
         go true allowed = none
         go false allowed = either allowed (by-row (drop 1 kindRows) kind bytes later) none
 
+    -- the hub record, by how the hub starts
+    by-start : (bytes : List ℕ) → ((start : PowerUp) → P (given (hubRecord (getD bytes 0 0) start))) → P (hubAsked bytes)
+    unfolding hubAsked
+    by-start bytes hub = either (eqb (length bytes) 1) (hub Boot) (either (eqb (getD bytes 1 0) 0) (hub Reset) none)
+
     -- the record at the start of some bytes, by what it may ask
     pub by-record : (first : Bool) (bytes : List ℕ) →
         let d = dataOf bytes in
-        (first ≡ true → P (given (hubRecord (getD d 0 0))))
+        (first ≡ true → (start : PowerUp) → P (given (hubRecord (getD d 0 0) start)))
         → P (given (writeRecord (getD d 0 0) (drop 1 d)))
         → P (given (readRecord (getD d 0 0)))
         → P (given (writeQuestion (getD d 0 0)))
@@ -74,11 +81,12 @@ module _ (P : Reply TraceRecord → Type 0) where
         let direction = getD (dataOf bytes) 1 0 in
         let question = either (eqb direction 0) hears (either (eqb direction 1) answers none) in
         either (holdsRecord bytes && hasMark bytes)
-        (by-kind first (kindByte bytes) (dataOf bytes) hub (write, (read, (question, (start, (end, (line, tt)))))))
+        (by-kind first (kindByte bytes) (dataOf bytes) (λ e. by-start (dataOf bytes) (hub e)) (write, (read, (question, (start, (end, (line, tt)))))))
         none
 
     -- the first record of a trace: a hub record, or none
-    pub by-first : (bytes : List ℕ) → P (given (hubRecord (getD (dataOf bytes) 0 0))) → P (recordOf true bytes)
+    pub by-first : (bytes : List ℕ) → ((start : PowerUp) → P (given (hubRecord (getD (dataOf bytes) 0 0) start)))
+        → P (recordOf true bytes)
     unfolding kindRows recordOf kindRecord kindRowIn
     by-first bytes hub =
         either (holdsRecord bytes && hasMark bytes)
@@ -87,9 +95,9 @@ module _ (P : Reply TraceRecord → Type 0) where
         go : (b allowed : Bool)
             → P (cond (b && allowed)
             (cond b (kindRow 0x00) (kindRowIn (drop 1 kindRows) (kindByte bytes)) .asked (dataOf bytes)) (refused 13))
-        go true allowed = either allowed hub none
+        go true allowed = either allowed (by-start (dataOf bytes) hub) none
         go false allowed = none
 
     -- whatever it asks
     pub by-any : (first : Bool) (bytes : List ℕ) → ((asked : TraceRecord) → P (given asked)) → P (recordOf first bytes)
-    by-any first bytes any = by-record first bytes (λ e. any _) (any _) (any _) (any _) (any _) (any _) (any _) (any _)
+    by-any first bytes any = by-record first bytes (λ e start. any _) (any _) (any _) (any _) (any _) (any _) (any _) (any _)

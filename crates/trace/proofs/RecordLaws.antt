@@ -13,7 +13,10 @@ use Rattle.laws.specs.Reply.{refused, given}
 use Rattle.laws.specs.Elements.{AreBytes}
 use Rattle.laws.proofs.Elements.{below-from, below-to}
 use Rattle.laws.proofs.Absurd.{zero-not-one}
+use Rattle.registers.specs.declared.power_up.PowerUp.{PowerUp}
+use Rattle.registers.specs.declared.power_up.PowerUp.the-variants.{Boot, Reset}
 use Rattle.trace.specs.Framing.{framingOf, recordLength, hasMark, kindByte, dataOf, holdsRecord, recordBytes, longestRecord}
+use Rattle.trace.specs.Records.{hubData, hubAsked}
 use Rattle.trace.specs.Records.{TraceRecord, hubRecord, writeRecord, kindRows, kindRowIn, kindRecord, recordOf}
 use Rattle.trace.specs.Laws.{ReadsBack, SameRecord, LongestRecord}
 
@@ -44,9 +47,11 @@ reads-back first kind bytes rest =
     (rw (le-leb (4 + length bytes) (length (recordBytes kind bytes ++ rest)) (omega arith), take-append-seam bytes rest), refl)
 
 -- the two records that a script makes
-pub hub-back : (address : ℕ) (rest : List ℕ) → recordOf true (recordBytes 0x00 (address ∷ []) ++ rest) ≡ given (hubRecord address)
-unfolding kindRecord kindRowIn kindRows
-hub-back address rest = reads-back true 0x00 (address ∷ []) rest .0
+pub hub-back : (address : ℕ) (start : PowerUp) (rest : List ℕ)
+    → recordOf true (recordBytes 0x00 (hubData address start) ++ rest) ≡ given (hubRecord address start)
+unfolding kindRecord kindRowIn kindRows hubAsked
+hub-back address Boot rest = reads-back true 0x00 (address ∷ []) rest .0
+hub-back address Reset rest = reads-back true 0x00 (address ∷ 0 ∷ []) rest .0
 
 pub write-back : (offset value : ℕ) (rest : List ℕ)
     → recordOf false (recordBytes 0x01 (offset ∷ value ∷ []) ++ rest) ≡ given (writeRecord offset (value ∷ []))

@@ -1,4 +1,4 @@
--- What the records of a trace ask: document 01, "The trace and the player", and refusal 13.
+-- What the records of a trace ask: document 01, "The trace and the player", refusal 13, and L5.
 -- Assumes nothing.
 use mathlib.Core.Bool.{Bool, cond, not, _&&_}
 use mathlib.Core.List.{List, [], _∷_}
@@ -6,6 +6,8 @@ use Prim.Native.Nat.{ℕ, _+_, _*_}
 use lib.Dec.{eqb, leb}
 use lib.ListN.{length, getD, drop}
 use Rattle.laws.specs.Reply.{Reply, refused, given}
+use Rattle.registers.specs.declared.power_up.PowerUp.{PowerUp}
+use Rattle.registers.specs.declared.power_up.PowerUp.the-variants.{Boot, Reset}
 use Rattle.trace.specs.declared.Record.{Record}
 use Rattle.trace.specs.declared.Record.the-variants.{Hub, Write, Read, WriteQuestion, ReadQuestion}
 use Rattle.trace.specs.declared.Record.the-variants.{Start, End, PixelLine}
@@ -15,7 +17,7 @@ use Rattle.trace.specs.Framing.{hasMark, kindByte, dataOf, holdsRecord}
 
 -- what a record asks of the hub
 pub data TraceRecord : Type 0 where
-  hubRecord : (address : ℕ) → TraceRecord
+  hubRecord : (address : ℕ) (start : PowerUp) → TraceRecord
   writeRecord : (offset : ℕ) (values : List ℕ) → TraceRecord
   readRecord : (offset : ℕ) → TraceRecord
   writeQuestion : (address : ℕ) → TraceRecord
@@ -23,6 +25,19 @@ pub data TraceRecord : Type 0 where
   startRecord : (port bits : ℕ) → TraceRecord
   endRecord : (port : ℕ) → TraceRecord
   pixelLineRecord : (port width pixel : ℕ) → TraceRecord
+
+-- L5: "The hub record may now have a second byte, only 0, for the data sheet's reset; with one byte it means the
+-- board's." "Refusals: 13 for another second byte."
+unfoldable pub hubAsked : List ℕ → Reply TraceRecord
+hubAsked bytes =
+    cond (eqb (length bytes) 1) (given (hubRecord (getD bytes 0 0) Boot))
+    (cond (eqb (getD bytes 1 0) 0) (given (hubRecord (getD bytes 0 0) Reset))
+    (refused 13))
+
+-- the data of the hub record that asks for an address and a start
+abbrev pub hubData : ℕ → PowerUp → List ℕ
+hubData address Boot = address ∷ []
+hubData address Reset = address ∷ 0 ∷ []
 
 -- "direction 0 write or 1 read"
 unfoldable pub questionRecord : List ℕ → Reply TraceRecord
@@ -43,8 +58,8 @@ row kind least most asked = record { kind = kind; least = least; most = most; as
 
 unfoldable pub kindRows : List KindRow
 kindRows =
-    -- "00: hub address (n = 1)"
-    row 0x00 1 1 (λ bytes. given (hubRecord (getD bytes 0 0))) ∷
+    -- "00: hub address (n = 1)"; L5: "may now have a second byte"
+    row 0x00 1 2 hubAsked ∷
     -- "01: offset, one or more values (n at least 2)"; its length byte holds at most 255
     row 0x01 2 255 (λ bytes. given (writeRecord (getD bytes 0 0) (drop 1 bytes))) ∷
     -- "02: offset to read (n = 1)"
@@ -90,7 +105,7 @@ recordOf first bytes =
 -- the paper's number and values for each case of the answer;
 -- the values of a write stand in the record's data after its offset
 abbrev pub recordIn : List ℕ → Record → TraceRecord
-recordIn bytes (Hub address) = hubRecord address
+recordIn bytes (Hub address start) = hubRecord address start
 recordIn bytes (Write offset) = writeRecord offset (drop 1 bytes)
 recordIn bytes (Read offset) = readRecord offset
 recordIn bytes (WriteQuestion address) = writeQuestion address

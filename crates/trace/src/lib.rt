@@ -3,18 +3,19 @@ ghost use mathlib.Core.Path.{_≡_};
 ghost use Prim.Native.Nat.{_+_, _*_};
 ghost use lib.ListN.{getD, drop};
 ghost use Rattle.trace.specs.Framing.{dataOf};
-ghost use Rattle.trace.specs.Records.{questionRecord, kindRow, lengthAllowed, mayStand, kindRecord, recordOf};
-ghost use Rattle.trace.specs.Records.{foundReply};
+ghost use Rattle.trace.specs.Records.{hubAsked, questionRecord, kindRow, lengthAllowed, mayStand, kindRecord};
+ghost use Rattle.trace.specs.Records.{recordOf, foundReply};
 ghost use Rattle.trace.specs.Contracts.{LengthsOf};
 pub use framing::data_of;
 pub use framing::holds_record;
 pub use framing::record_length;
+use registers::power_up::PowerUp;
 
 mod framing;
 
 // What a record asks of the hub. The values of a write are by a question of their own.
 pub enum Record {
-    Hub { address: u8 },
+    Hub { address: u8, start: PowerUp },
     Write { offset: u8 },
     Read { offset: u8 },
     WriteQuestion { address: u8 },
@@ -41,7 +42,7 @@ fn data_lengths(kind: u8) -> DataLengths
     ensures { λ r. ⌜ LengthsOf (kindRow kind) r ⌝ }
 {
     match kind {
-        0x00 => DataLengths { least: 1, most: 1 },
+        0x00 => DataLengths { least: 1, most: 2 },
         0x01 => DataLengths {
             least: 2,
             most: 255,
@@ -73,6 +74,25 @@ fn may_stand(first: bool, kind: u8) -> bool
     kind != 0x00
 }
 
+fn hub(bytes: &[u8]) -> FoundRecord
+    ensures { λ r. ⌜ foundReply (now (bytes .entry)) r ≡ hubAsked (now (bytes .entry)) ⌝ }
+{
+    let address = buffers::byte_at(bytes, 0);
+    if bytes.len() == 1 {
+        return FoundRecord::Found(Record::Hub {
+            address,
+            start: PowerUp::Boot,
+        });
+    }
+    if buffers::byte_at(bytes, 1) == 0 {
+        return FoundRecord::Found(Record::Hub {
+            address,
+            start: PowerUp::Reset,
+        });
+    }
+    FoundRecord::NoRecord
+}
+
 fn question(bytes: &[u8]) -> FoundRecord
     ensures { λ r. ⌜ foundReply (now (bytes .entry)) r ≡ questionRecord (now (bytes .entry)) ⌝ }
 {
@@ -98,7 +118,7 @@ fn data_record(kind: u8, bytes: &[u8]) -> FoundRecord
     let first = buffers::byte_at(bytes, 0);
     let second = buffers::byte_at(bytes, 1);
     match kind {
-        0x00 => FoundRecord::Found(Record::Hub { address: first }),
+        0x00 => hub(bytes),
         0x01 => FoundRecord::Found(Record::Write { offset: first }),
         0x02 => FoundRecord::Found(Record::Read { offset: first }),
         0x03 => question(bytes),

@@ -14,6 +14,7 @@ use Rattle.laws.specs.Reply.{Reply, refused, refusedWith, refusedAt, given, and
 use Rattle.laws.specs.Elements.{AreBytes}
 use Rattle.laws.proofs.Buffers.{read-written}
 use Rattle.laws.proofs.Elements.{below-from, below-to}
+use Rattle.registers.specs.declared.power_up.PowerUp.{PowerUp}
 use Rattle.hub.specs.Hubs.{isHubAddress}
 use Rattle.trace.specs.Framing.{recordLength, dataOf}
 use Rattle.trace.specs.Records.{TraceRecord, hubRecord, writeRecord, readRecord, writeQuestion, readQuestion, startRecord, endRecord, pixelLineRecord, recordOf}
@@ -54,14 +55,14 @@ pub data TakenAs (records : ℕ) (left lent : List ℕ) : Taken → Type 0 where
   asPassed : (next : NextRecord) (values : List ℕ) → TakenAs records left lent (takenWith (passedAs records left next) values)
 
 module _ (records : ℕ) (left lent : List ℕ) where
-  hub-as : (address : ℕ) (allowed : Bool)
-      → TakenAs records left lent (takenWith (cond allowed (passedAs records left (NextRecord.Hub address)) (notPassed records TraceRefusal.AddressOutOfRange)) lent)
-  hub-as address true = asPassed (NextRecord.Hub address) lent
-  hub-as address false = asRefused TraceRefusal.AddressOutOfRange refl
+  hub-as : (address : ℕ) (start : PowerUp) (allowed : Bool)
+      → TakenAs records left lent (takenWith (cond allowed (passedAs records left (NextRecord.Hub address start)) (notPassed records TraceRefusal.AddressOutOfRange)) lent)
+  hub-as address start true = asPassed (NextRecord.Hub address start) lent
+  hub-as address start false = asRefused TraceRefusal.AddressOutOfRange refl
 
   asked-as : (asked : TraceRecord) → TakenAs records left lent (takeAsked records left lent asked)
   unfolding takeAsked takenHub
-  asked-as (hubRecord address) = hub-as address (isHubAddress address)
+  asked-as (hubRecord address start) = hub-as address start (isHubAddress address)
   asked-as (writeRecord offset values) = asPassed _ _
   asked-as (readRecord offset) = asPassed _ _
   asked-as (writeQuestion address) = asPassed _ _
@@ -111,15 +112,15 @@ module _ (last : Bool) (run : WritesRun) (left lent rest : List ℕ) (ends : las
       (record { records = nextRecordNumber (run .records); refusal = TraceRefusal.NoRefusal; found = found }) later
   passed-on found = rw (number, ne-eqb (run .records + 1) 0 (λ z. omega arith))
 
-  comes-hub : (address : ℕ) → Comes (given (hubRecord address))
+  comes-hub : (address : ℕ) (start : PowerUp) → Comes (given (hubRecord address start))
   unfolding afterAsked takeAsked takenHub
-  comes-hub address = go (isHubAddress address)
+  comes-hub address start = go (isHubAddress address)
     where
       go : (allowed : Bool)
-          → let taken = takenWith (cond allowed (passedAs (run .records) left (NextRecord.Hub address)) (notPassed (run .records) TraceRefusal.AddressOutOfRange)) lent in
-          andThen (atRecord (run .records + 1) (cond allowed (given (withHub address (run .found))) (refused 2))) (λ after. afterRecords (length later) (run .records + 1) after later)
+          → let taken = takenWith (cond allowed (passedAs (run .records) left (NextRecord.Hub address start)) (notPassed (run .records) TraceRefusal.AddressOutOfRange)) lent in
+          andThen (atRecord (run .records + 1) (cond allowed (given (withHub address start (run .found))) (refused 2))) (λ after. afterRecords (length later) (run .records + 1) after later)
           ≡ toCome (runAfter run taken) (drop (taken .result .used) left ++ rest)
-      go true = passed-on (withHub address (run .found))
+      go true = passed-on (withHub address start (run .found))
       go false = rw number
 
   comes-write : Comes (given (writeRecord (getD (dataOf left) 0 0) (drop 1 (dataOf left))))

@@ -27,7 +27,7 @@ use Rattle.tracewrites.specs.TraceWrites.{afterRecords, traceWrites, pas
 
 -- the writes of a record with that number
 abbrev recordWrites : ℕ → TraceRecord → List NumberedWrite
-recordWrites number (hubRecord address) = []
+recordWrites number (hubRecord address start) = []
 recordWrites number (writeRecord offset values) = numberedBurst number offset values
 recordWrites number (readRecord offset) = []
 recordWrites number (writeQuestion address) = []
@@ -57,12 +57,12 @@ module _ (before : TraceWrites) (number : ℕ) (next : TraceWrites → Reply Tra
       → andThen (atRecord number (afterAsked before number asked)) next ≡ given after
       → Adds before number asked next after
   unfolding afterAsked
-  asked-adds (hubRecord address) e = go (isHubAddress address) e
+  asked-adds (hubRecord address start) e = go (isHubAddress address) e
     where
       go : (allowed : Bool)
-          → andThen (atRecord number (cond allowed (given (withHub address before)) (refused 2))) next ≡ given after
-          → Adds before number (hubRecord address) next after
-      go true k = record { mid = withHub address before; writes = sym (append-nil (before .writes)); later = k }
+          → andThen (atRecord number (cond allowed (given (withHub address start before)) (refused 2))) next ≡ given after
+          → Adds before number (hubRecord address start) next after
+      go true k = record { mid = withHub address start before; writes = sym (append-nil (before .writes)); later = k }
       go false k = zero-not-one (cc)
   asked-adds (writeRecord offset values) e = record { mid = _; writes = refl; later = e }
   asked-adds (readRecord offset) e = unchanged (readRecord offset) refl e
@@ -109,7 +109,7 @@ module _ (records : ℕ) (bytes : List ℕ) (write : NumberedWrite) where
         asked = here-asked (both .0) ∙ e;
         among = both .1;
       }
-  here (hubRecord address) e m = absurd (List·Memᴰ·not-nil m)
+  here (hubRecord address start) e m = absurd (List·Memᴰ·not-nil m)
   here (readRecord offset) e m = absurd (List·Memᴰ·not-nil m)
   here (writeQuestion address) e m = absurd (List·Memᴰ·not-nil m)
   here (readQuestion address) e m = absurd (List·Memᴰ·not-nil m)

@@ -13,6 +13,7 @@ use Rattle.laws.specs.Reply.{given}
 use Rattle.laws.proofs.Bools.{both}
 use Rattle.buffers.specs.Putting.{Puts}
 use Rattle.buffers.proofs.PutLaws.{whole-buffer, whole-place}
+use Rattle.registers.specs.declared.power_up.PowerUp.{PowerUp}
 use Rattle.trace.specs.declared.Record.{Record}
 use Rattle.trace.specs.Framing.{dataOf}
 use Rattle.trace.specs.Records.{recordOf, recordIn}
@@ -43,14 +44,14 @@ tests refusal left last size may =
 
 -- A record that writes nothing, or else a hub record or a write.
 data Writing (records : ℕ) (left lent bytes : List ℕ) : Record → Type 0 where
-  ofHub : (address : ℕ) → Writing records left lent bytes (Record.Hub address)
+  ofHub : (address : ℕ) (start : PowerUp) → Writing records left lent bytes (Record.Hub address start)
   ofWrite : (offset : ℕ) → Writing records left lent bytes (Record.Write offset)
   nothing : {asked : Record} → takeAsked records left lent (recordIn bytes asked) ≡ takenWith (passedAs records left NextRecord.Other) lent
       → Writing records left lent bytes asked
 
 writing : (records : ℕ) (left lent bytes : List ℕ) (asked : Record) → Writing records left lent bytes asked
 unfolding takeAsked
-writing records left lent bytes (Record.Hub address) = ofHub address
+writing records left lent bytes (Record.Hub address start) = ofHub address start
 writing records left lent bytes (Record.Write offset) = ofWrite offset
 writing records left lent bytes (Record.Read offset) = nothing refl
 writing records left lent bytes (Record.WriteQuestion address) = nothing refl
@@ -61,7 +62,7 @@ writing records left lent bytes (Record.PixelLine port width pixel) = nothing re
 
 -- the record that was found
 module _ (records : ℕ) (left lent : List ℕ) (asked : Record) (found : recordOf (eqb records 0) left ≡ given (recordIn (dataOf left) asked)) {result : RecordTaken} where
-  pub one-hub : {address : ℕ} → asked ≡ Record.Hub address → result ≡ takenHub records left address → takenWith result lent ≡ takeRecord records left lent
+  pub one-hub : {address : ℕ} {start : PowerUp} → asked ≡ Record.Hub address start → result ≡ takenHub records left address start → takenWith result lent ≡ takeRecord records left lent
   unfolding takeRecord takeAsked
   one-hub a e = rw (found, a, e)
 
@@ -73,13 +74,13 @@ module _ (records : ℕ) (left lent : List ℕ) (asked : Record) (found : record
       let few = few-values left small in
       rw (found, a, e, n, whole-buffer puts (omega arith), whole-place puts (omega arith), zero-add (length (drop 1 (dataOf left))))
 
-  pub one-other : ((address : ℕ) → asked ≡ Record.Hub address → ⊥) → ((offset : ℕ) → asked ≡ Record.Write offset → ⊥)
+  pub one-other : ((address : ℕ) (start : PowerUp) → asked ≡ Record.Hub address start → ⊥) → ((offset : ℕ) → asked ≡ Record.Write offset → ⊥)
       → result ≡ passedAs records left NextRecord.Other → takenWith result lent ≡ takeRecord records left lent
   unfolding takeRecord
   one-other hub write e = rw (found, e) (go (writing records left lent (dataOf left) asked) hub write)
     where
-      go : {r : Record} → Writing records left lent (dataOf left) r → ((address : ℕ) → r ≡ Record.Hub address → ⊥) → ((offset : ℕ) → r ≡ Record.Write offset → ⊥)
+      go : {r : Record} → Writing records left lent (dataOf left) r → ((address : ℕ) (start : PowerUp) → r ≡ Record.Hub address start → ⊥) → ((offset : ℕ) → r ≡ Record.Write offset → ⊥)
           → takenWith (passedAs records left NextRecord.Other) lent ≡ takeAsked records left lent (recordIn (dataOf left) r)
-      go (ofHub address) h w = absurd (h address refl)
+      go (ofHub address start) h w = absurd (h address start refl)
       go (ofWrite offset) h w = absurd (w offset refl)
       go (nothing k) h w = sym k

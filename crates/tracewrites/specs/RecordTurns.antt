@@ -9,6 +9,7 @@ use lib.ListN.{length, take, drop}
 use Rattle.laws.specs.Reply.{Reply, refusedWith, given}
 use Rattle.laws.specs.Buffers.{written}
 use Rattle.streams.specs.Streams.{newWindow, afterRead, nothingLeft}
+use Rattle.registers.specs.declared.power_up.PowerUp.{PowerUp}
 use Rattle.hub.specs.Hubs.{isHubAddress}
 use Rattle.trace.specs.Framing.{recordLength, holdsRecord}
 use Rattle.trace.specs.Records.{TraceRecord, hubRecord, writeRecord, readRecord, writeQuestion, readQuestion}
@@ -74,13 +75,13 @@ passedAs records left next =
     record { records = nextRecordNumber records; refusal = NoRefusal; next = next; used = recordLength left }
 
 -- a hub record: 2 where the address is none that a hub has
-unfoldable pub takenHub : ℕ → List ℕ → ℕ → RecordTaken
-takenHub records left address =
-    cond (isHubAddress address) (passedAs records left (Hub address)) (notPassed records AddressOutOfRange)
+unfoldable pub takenHub : ℕ → List ℕ → ℕ → PowerUp → RecordTaken
+takenHub records left address start =
+    cond (isHubAddress address) (passedAs records left (Hub address start)) (notPassed records AddressOutOfRange)
 
 -- what a record asks: the values of a write are put at the start of the lent buffer, and other records put nothing
 unfoldable pub takeAsked : ℕ → List ℕ → List ℕ → TraceRecord → Taken
-takeAsked records left lent (hubRecord address) = takenWith (takenHub records left address) lent
+takeAsked records left lent (hubRecord address start) = takenWith (takenHub records left address start) lent
 takeAsked records left lent (writeRecord offset values) =
     takenWith (passedAs records left (Write (nextRecordNumber records) offset (length values))) (written lent 0 values)
 takeAsked records left lent (readRecord offset) = takenWith (passedAs records left Other) lent

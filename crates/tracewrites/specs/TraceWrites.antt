@@ -7,6 +7,8 @@ use Prim.Native.Nat.{ℕ, zero, suc, _+_, _-_, _≤_}
 use lib.Dec.{eqb}
 use lib.ListN.{length, drop}
 use Rattle.laws.specs.Reply.{Reply, refusedWith, refused, refusedAt, given, andThen}
+use Rattle.registers.specs.declared.power_up.PowerUp.{PowerUp}
+use Rattle.registers.specs.declared.power_up.PowerUp.the-variants.{Boot}
 use Rattle.registers.specs.Bursts.{burstWrites}
 use Rattle.hub.specs.Hubs.{isHubAddress}
 use Rattle.origins.specs.NumberedWrites.{NumberedWrite, unnumbered, numberedBurst, NumbersMean}
@@ -14,27 +16,33 @@ use Rattle.trace.specs.Framing.{recordLength}
 use Rattle.trace.specs.Records.{TraceRecord, hubRecord, writeRecord, readRecord, writeQuestion, readQuestion}
 use Rattle.trace.specs.Records.{startRecord, endRecord, pixelLineRecord, recordOf}
 
--- the hub's own address, and the writes, each with the number of its record
+-- the hub's own address, how it starts, and the writes, each with the number of its record
 pub record TraceWrites : Type 0 where
   pub hub : ℕ
+  pub start : PowerUp
   pub writes : List NumberedWrite
 
--- before record 1 (there is no hub then; the address here is not asked, as in the player's definition)
+-- before record 1 (there is no hub then; the address and the start here are not asked, as in the player's definition)
 abbrev pub noWrites : TraceWrites
-noWrites = record { hub = 0x08; writes = [] }
+noWrites = record { hub = 0x08; start = Boot; writes = [] }
 
-abbrev pub withHub : ℕ → TraceWrites → TraceWrites
-withHub address before = record { hub = address; writes = before .writes }
+abbrev pub withHub : ℕ → PowerUp → TraceWrites → TraceWrites
+withHub address start before = record { hub = address; start = start; writes = before .writes }
 
 -- each value of a burst is a write, and all have the number of its record
 abbrev pub withBurst : ℕ → ℕ → List ℕ → TraceWrites → TraceWrites
 withBurst number offset values before =
-    record { hub = before .hub; writes = before .writes ++ numberedBurst number offset values }
+    record {
+      hub = before .hub;
+      start = before .start;
+      writes = before .writes ++ numberedBurst number offset values;
+    }
 
--- what the record with that number adds: the hub's own address, or register writes; the others write nothing. 2 where
--- the address is none that a hub has
+-- what the record with that number adds: the hub's own address and start, or register writes; the others write nothing.
+-- 2 where the address is none that a hub has
 unfoldable pub afterAsked : TraceWrites → ℕ → TraceRecord → Reply TraceWrites
-afterAsked before number (hubRecord address) = cond (isHubAddress address) (given (withHub address before)) (refused 2)
+afterAsked before number (hubRecord address start) =
+    cond (isHubAddress address) (given (withHub address start before)) (refused 2)
 afterAsked before number (writeRecord offset values) = given (withBurst number offset values before)
 afterAsked before number (readRecord offset) = given before
 afterAsked before number (writeQuestion address) = given before

@@ -24,7 +24,7 @@ use Rattle.tracewrites.specs.RecordTurns.{takeNext, MakesRecordTurn}
 -- what a turn gave, after what the turns before it gave: the values of a write stand at the start of the lent buffer
 abbrev pub withGiven : TraceWrites → NextRecord → List ℕ → TraceWrites
 withGiven before NoRecord values = before
-withGiven before (Hub address) values = withHub address before
+withGiven before (Hub address start) values = withHub address start before
 withGiven before (Write number offset count) values = withBurst number offset (take count values) before
 withGiven before Other values = before
 

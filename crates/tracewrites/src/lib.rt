@@ -3,6 +3,7 @@
 ghost use mathlib.Core.Path.{_≡_};
 ghost use Rattle.tracewrites.specs.RecordTurns.{traceRefusalNumber, isTraceRefusal, nextRecordNumber};
 ghost use Rattle.tracewrites.specs.RecordTurns.{refusedNumber, newTraceFile, MakesRecordTurn};
+use registers::power_up::PowerUp;
 use streams::Window;
 
 mod record;
@@ -15,12 +16,13 @@ pub enum TraceRefusal {
     EmptyTrace,
 }
 
-// What a turn found: no record; the hub's own address; a write with the number of its record, the offset of its first
-// value and how many values it has; or a record that writes nothing.
+// What a turn found: no record; the hub's own address and how it starts; a write with the number of its record, the
+// offset of its first value and how many values it has; or a record that writes nothing.
 pub enum NextRecord {
     NoRecord,
     Hub {
         address: u8,
+        start: PowerUp,
     },
     Write {
         number: u64,

@@ -7,6 +7,7 @@ ghost use Rattle.tracewrites.specs.RecordTurns.{takenHub, takeRecord, re
 use crate::NextRecord;
 use crate::RecordTaken;
 use crate::TraceRefusal;
+use registers::power_up::PowerUp;
 use trace::FoundRecord;
 use trace::Record;
 
@@ -52,11 +53,11 @@ fn passed_as(records: u64, left: &[u8], next: NextRecord) -> RecordTaken
     }
 }
 
-fn taken_hub(records: u64, left: &[u8], address: u8) -> RecordTaken
-    ensures { λ r. ⌜ r ≡ takenHub records (now (left .entry)) address ⌝ }
+fn taken_hub(records: u64, left: &[u8], address: u8, start: PowerUp) -> RecordTaken
+    ensures { λ r. ⌜ r ≡ takenHub records (now (left .entry)) address start ⌝ }
 {
     if hub::is_hub_address(address) {
-        return passed_as(records, left, NextRecord::Hub { address });
+        return passed_as(records, left, NextRecord::Hub { address, start });
     }
     not_passed(records, TraceRefusal::AddressOutOfRange)
 }
@@ -70,8 +71,8 @@ fn take_record(records: u64, left: &[u8], values: &mut [u8]) -> RecordTaken
     let FoundRecord::Found(asked) = trace::record_at(left, records == 0) else {
         return not_passed(records, TraceRefusal::MalformedRecord);
     };
-    if let Record::Hub { address } = asked {
-        return taken_hub(records, left, address);
+    if let Record::Hub { address, start } = asked {
+        return taken_hub(records, left, address, start);
     }
     if let Record::Write { offset } = asked {
         let number = crate::next_record_number(records);

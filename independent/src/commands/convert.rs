@@ -3,18 +3,27 @@
 
 use super::{cannot_print, cannot_write, Failure};
 use independent::compare::scripts::named;
-use independent::model::convert::{refused_lines, to_text, to_trace, Refused};
+use independent::model::convert::{
+    has_no_write, hub_of, refused_lines, to_text, to_trace, Refused,
+};
+use independent::model::start::Start;
 use std::ffi::OsString;
 use std::fs;
 use std::io::{self, Read, Write};
 use std::path::Path;
 
-pub fn trace(address: &OsString, script: &Path, out: &Path) -> Result<(), Failure> {
+pub fn trace(
+    start: &OsString,
+    address: &OsString,
+    script: &Path,
+    out: &Path,
+) -> Result<(), Failure> {
+    let start = start_of(&start.to_string_lossy())?;
     let address = hex_byte(&address.to_string_lossy())?;
     let text = read(script)?;
-    match to_trace(address, &text) {
+    match to_trace(address, start, &text) {
         Ok(trace) => {
-            if trace.len() == 5 {
+            if has_no_write(&trace) {
                 let _ = writeln!(io::stderr(), "note: there is no register write");
             }
             fs::write(out, trace).map_err(|error| cannot_write(out, error))
@@ -31,6 +40,22 @@ pub fn text(trace: &Path) -> Result<(), Failure> {
         Ok(text) => io::stdout().write_all(&text).map_err(cannot_print),
         Err(refused) => print_refusal(&["the trace is refused".into()], refused),
     }
+}
+
+/// The trace's address and start, with which its text is read again.
+pub fn start(trace: &Path) -> Result<(), Failure> {
+    match hub_of(&read(trace)?) {
+        Ok((address, start)) => {
+            let start = start.name();
+            writeln!(io::stdout(), "{address:02X} {start}").map_err(cannot_print)
+        }
+        Err(refused) => print_refusal(&["the trace is refused".into()], refused),
+    }
+}
+
+fn start_of(text: &str) -> Result<Start, Failure> {
+    let problem = || Failure::Call(format!("the start must be board or sheet, not {text}"));
+    Start::of_name(text).ok_or_else(problem)
 }
 
 /// Two hex digits in either case.

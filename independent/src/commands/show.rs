@@ -6,6 +6,7 @@ use super::{cannot_print, Failure};
 use independent::compare::scripts::named;
 use independent::facts::object::object;
 use independent::model::convert::{refused_lines, Refused};
+use independent::model::start::Start;
 use independent::screens::{self, Subject};
 use std::ffi::OsString;
 use std::io::{self, Write};
@@ -30,24 +31,27 @@ pub fn check(arguments: &[OsString]) -> Result<(), Failure> {
 }
 
 /// Prints the answer, and says whether something looks wrong; nothing where the file is refused. It
-/// is a script where an address stands before it, else a trace.
+/// is a script where an address stands before it, else a trace, which has its own start.
 fn answer(
     command: &str,
     screen: fn(&Subject) -> Vec<u8>,
     arguments: &[OsString],
 ) -> Result<Option<bool>, Failure> {
-    let (json, arguments) = match arguments {
-        [first, rest @ ..] if first == "--json" => (true, rest),
-        _ => (false, arguments),
+    let is_option = |word: &&OsString| *word == "--json" || *word == "--sheet";
+    let options: Vec<&OsString> = arguments.iter().take_while(is_option).collect();
+    let json = options.iter().any(|word| *word == "--json");
+    let start = match options.iter().any(|word| *word == "--sheet") {
+        true => Start::Sheet,
+        false => Start::Board,
     };
-    let (address, file) = match arguments {
+    let (address, file) = match &arguments[options.len()..] {
         [address, script] => (Some(hex_byte(&address.to_string_lossy())?), script),
-        [trace] => (None, trace),
+        [trace] if start == Start::Board => (None, trace),
         _ => return Err(Failure::Call(crate::USAGE.into())),
     };
     let (name, bytes) = (file.as_encoded_bytes(), read(Path::new(file))?);
     let subject = match address {
-        Some(address) => Subject::of_script(name, address, &bytes),
+        Some(address) => Subject::of_script(name, address, start, &bytes),
         None => Subject::of_trace(name, &bytes),
     };
     let printed = match &subject {

@@ -11,6 +11,7 @@ use crate::model::hub::Hub;
 use crate::model::packet;
 use crate::model::pixels;
 use crate::model::refusal::Refusal;
+use crate::model::start::Start;
 
 /// The payloads that the standard gives a checksum for.
 pub const CHECKSUM_VECTORS: [[u8; 24]; 2] = [
@@ -44,9 +45,9 @@ fn shown<T>(answer: Result<T, Refusal>, show: impl FnOnce(T) -> String) -> Strin
     answer.map_or_else(|refusal| format!("! {}", refusal.number()), show)
 }
 
-/// The hub 0x3D after reset and these writes.
+/// The hub 0x3D after the data sheet's reset and these writes.
 fn hub(writes: &[(u8, u8)]) -> Hub {
-    let mut hub = Hub::new(0x3D).expect("0x3D is an address that a hub may have");
+    let mut hub = Hub::new(0x3D, Start::Sheet).expect("0x3D is an address that a hub may have");
     for &(offset, value) in writes {
         hub.registers.write(offset, value);
     }

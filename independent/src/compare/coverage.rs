@@ -3,6 +3,21 @@
 
 use std::collections::BTreeMap;
 
+/// Lists of points as one.
+pub const fn joined<const COUNT: usize>(parts: &[&[&'static str]]) -> [&'static str; COUNT] {
+    let mut all = [""; COUNT];
+    let (mut part, mut inside, mut place) = (0, 0, 0);
+    while place < COUNT {
+        if inside == parts[part].len() {
+            (part, inside) = (part + 1, 0);
+            continue;
+        }
+        all[place] = parts[part][inside];
+        (inside, place) = (inside + 1, place + 1);
+    }
+    all
+}
+
 #[derive(Clone, Default)]
 pub struct Coverage {
     counts: BTreeMap<&'static str, u64>,

@@ -6,6 +6,7 @@ pub mod cases;
 pub mod comparison;
 pub mod coverage;
 pub mod difference;
+mod hub_points;
 pub mod json;
 pub mod players;
 pub mod run;

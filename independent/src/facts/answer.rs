@@ -7,11 +7,13 @@ use super::given::{of_script, of_trace, Given};
 use super::order::any_order;
 use super::run::{run, Run};
 use crate::model::convert::Refused;
+use crate::model::start::Start;
 
 #[derive(Clone, Debug, PartialEq, Eq)]
 pub struct Answer {
     /// The hub's own address.
     pub hub: u8,
+    pub start: Start,
     /// How many register writes there were; each byte of a burst is one.
     pub writes: u64,
     pub any_order: bool,
@@ -28,6 +30,7 @@ impl Answer {
     pub fn of_run(given: &Given, run: &Run) -> Answer {
         Answer {
             hub: given.hub,
+            start: given.start,
             writes: given.writes.len() as u64,
             any_order: any_order(&given.writes),
             ports: ports(run),
@@ -36,8 +39,8 @@ impl Answer {
         }
     }
 
-    pub fn of_script(address: u8, text: &[u8]) -> Result<Answer, Refused> {
-        Answer::of(&of_script(address, text)?)
+    pub fn of_script(address: u8, start: Start, text: &[u8]) -> Result<Answer, Refused> {
+        Answer::of(&of_script(address, start, text)?)
     }
 
     pub fn of_trace(trace: &[u8]) -> Result<Answer, Refused> {

@@ -3,6 +3,7 @@
 use crate::model::convert::{pieces, read_piece, Refused};
 use crate::model::hub::Hub;
 use crate::model::refusal::Refusal;
+use crate::model::start::Start;
 use crate::model::trace::{Record, RecordReader};
 
 /// One byte for one register. "A script's register writes are numbered by their line (a trace's by
@@ -18,12 +19,13 @@ pub struct Write {
 pub struct Given {
     /// The hub's own address.
     pub hub: u8,
+    pub start: Start,
     pub writes: Vec<Write>,
 }
 
 /// A script, or its refusal as `convert trace` prints it.
-pub fn of_script(address: u8, text: &[u8]) -> Result<Given, Refused> {
-    Hub::new(address)?;
+pub fn of_script(address: u8, start: Start, text: &[u8]) -> Result<Given, Refused> {
+    Hub::new(address, start)?;
     let mut writes = Vec::new();
     for (number, piece) in (1..).zip(pieces(text)) {
         let call = read_piece(piece).map_err(|refusal| at(number, refusal))?;
@@ -35,6 +37,7 @@ pub fn of_script(address: u8, text: &[u8]) -> Result<Given, Refused> {
     }
     Ok(Given {
         hub: address,
+        start,
         writes,
     })
 }
@@ -51,16 +54,16 @@ pub fn of_trace(trace: &[u8]) -> Result<Given, Refused> {
     while let Ok(Some(record)) = reader.next_record() {
         number += 1;
         match record.map_err(|_| at(number, Refusal::RecordMalformed))? {
-            Record::HubAddress { address } => {
-                Hub::new(address).map_err(|refusal| at(number, refusal))?;
-                hub = Some(address);
+            Record::HubAddress { address, start } => {
+                Hub::new(address, start).map_err(|refusal| at(number, refusal))?;
+                hub = Some((address, start));
             }
             Record::Write { offset, values } => writes.extend(burst(number, offset, values)),
             _ => {}
         }
     }
-    let hub = hub.ok_or(Refusal::RecordMalformed)?;
-    Ok(Given { hub, writes })
+    let (hub, start) = hub.ok_or(Refusal::RecordMalformed)?;
+    Ok(Given { hub, start, writes })
 }
 
 fn at(number: u64, refusal: Refusal) -> Refused {

@@ -20,7 +20,7 @@ pub struct Lost {
 /// By address; of the last such write "the highest port counts".
 pub fn lost(given: &Given, run: &Run) -> BTreeMap<u8, Lost> {
     let mut lost = BTreeMap::new();
-    let Ok(mut hub) = Hub::new(given.hub) else {
+    let Ok(mut hub) = Hub::new(given.hub, given.start) else {
         return lost; // there would be no run
     };
     for step in run.steps.iter() {

@@ -9,8 +9,10 @@ use std::fmt::Display;
 /// The object without a line feed. No text in it has a character that JSON would have escaped.
 pub fn object(answer: &Answer) -> String {
     format!(
-        "{{\"hub\":{},\"writes\":{},\"any_order\":{},\"ports\":{},\"addresses\":{},\"findings\":{}}}",
+        "{{\"hub\":{},\"start\":\"{}\",\"writes\":{},\"any_order\":{},\"ports\":{},\"addresses\":{},\
+         \"findings\":{}}}",
         hex(answer.hub),
+        answer.start.name(),
         answer.writes,
         answer.any_order,
         list(answer.ports.iter().map(port)),

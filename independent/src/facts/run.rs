@@ -1,4 +1,4 @@
-//! The writes run one after the other on a hub after reset, with what each did and the origins.
+//! The writes run one after the other on a hub as it starts, with what each did and the origins.
 
 use super::effect::{Did, Effect};
 use super::given::{Given, Write};
@@ -31,7 +31,7 @@ pub struct Run {
 
 /// An address that no hub has is refused.
 pub fn run(given: &Given) -> Result<Run, Refusal> {
-    let mut hub = Hub::new(given.hub)?;
+    let mut hub = Hub::new(given.hub, given.start)?;
     let mut origins = Origins::default();
     let mut steps = Vec::new();
     let mut block = 0;

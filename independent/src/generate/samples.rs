@@ -3,6 +3,7 @@
 //! prints, turned into traces.
 
 use crate::model::convert::to_trace;
+use crate::model::start::Start;
 use crate::model::trace_builder::TraceBuilder;
 use std::fs;
 use std::io;
@@ -47,15 +48,23 @@ pub fn write_all(folder: &Path) -> io::Result<()> {
     fs::create_dir_all(&folder)?;
     for (name, text) in SCRIPTS {
         let refused = |refused| io::Error::other(format!("{name}.script is refused: {refused}"));
-        let trace = to_trace(HUB, text).map_err(refused)?;
+        let trace = to_trace(HUB, Start::Board, text).map_err(refused)?;
         fs::write(folder.join(format!("{name}.trace")), trace)?;
     }
     Ok(())
 }
 
-/// Document 01, "The trace and the player".
+/// Document 01, "The trace and the player". "The case in document 01 becomes 00 3D 00 and prints as
+/// before."
 pub fn whole_case() -> Vec<u8> {
-    let mut trace = TraceBuilder::with_hub(HUB);
+    let mut trace = TraceBuilder::with_hub(HUB, Start::Sheet);
+    trace.raw(&after_the_hub());
+    trace.into_bytes()
+}
+
+/// The whole case without its hub record.
+pub fn after_the_hub() -> Vec<u8> {
+    let mut trace = TraceBuilder::default();
     trace.write(0x4C, 0x12);
     trace.write(0x58, 0x58);
     trace.write(0x5D, 0x60);
@@ -74,9 +83,10 @@ pub fn whole_case() -> Vec<u8> {
 /// Lane A has the cameras of ports 0 and 1, on CSI output 0; lane B those of ports 2 and 3, on
 /// output 1. In each lane the front camera has virtual channel 0 and the rear camera 1. The cameras
 /// all have the address 0x30 on their own bus, and get the addresses 0x31 to 0x34. The block for
-/// lane B's front camera has its page selection as it is given here; 0x24 is port 2.
+/// lane B's front camera has its page selection as it is given here; 0x24 is port 2. The hub starts as
+/// the board does, and nothing sets the largest frame number, so the frames carry 0.
 fn weighbridge(lane_b_front: u8) -> Vec<u8> {
-    let mut trace = TraceBuilder::with_hub(HUB);
+    let mut trace = TraceBuilder::with_hub(HUB, Start::Board);
     let cameras = [
         (0x01, 0x62, 0x2B),
         (0x12, 0x64, 0x6B),

@@ -5,8 +5,11 @@ use crate::model::registers::{
     BCC_CONFIG, FPD3_PORT_SEL, FWD_CTL1, MAX_FRM_HI, MAX_FRM_LO, RAW10_ID, RAW12_ID, SER_ALIAS_ID,
     SER_ID,
 };
+use crate::model::start::{Start, STARTS};
 
 pub const BAD_HUB_ADDRESSES: [u8; 6] = [0x00, 0x07, 0x78, 0x7F, 0x80, 0xFF];
+/// Second bytes of a hub record that is none.
+pub const BAD_SECOND_BYTES: [u8; 7] = [0x01, 0xFF, 0x3D, 0x80, 0x02, 0x7F, 0x04];
 pub const BAD_PORTS: [u8; 6] = [4, 5, 7, 127, 128, 255];
 pub const FORMATS: [u8; 2] = [10, 12];
 pub const BAD_FORMATS: [u8; 9] = [0, 1, 8, 9, 11, 13, 14, 26, 255];
@@ -35,6 +38,10 @@ pub fn hub_address(rng: &mut Rng) -> u8 {
         2 => 0x3D,
         _ => rng.between(0x08, 0x77) as u8,
     }
+}
+
+pub fn start(rng: &mut Rng) -> Start {
+    rng.pick(&STARTS)
 }
 
 pub fn offset(rng: &mut Rng) -> u8 {

@@ -1,8 +1,10 @@
-//! Request L1: an installer's script turned into a trace, and a trace into a script.
+//! Request L1: an installer's script turned into a trace, and a trace into a script. Request L5: "the
+//! agent gives the start with the address, and for text made from a trace the trace's own".
 
 use super::hub::Hub;
 use super::refusal::Refusal;
 use super::script_line::{read_line, written, Call, LONGEST_LINE};
+use super::start::Start;
 use super::trace::{Record, RecordReader};
 use super::trace_builder::TraceBuilder;
 use std::fmt;
@@ -33,9 +35,9 @@ impl fmt::Display for Refused {
 }
 
 /// The hub record, then a write record of one value for each call.
-pub fn to_trace(address: u8, text: &[u8]) -> Result<Vec<u8>, Refused> {
-    Hub::new(address)?;
-    let mut trace = TraceBuilder::with_hub(address);
+pub fn to_trace(address: u8, start: Start, text: &[u8]) -> Result<Vec<u8>, Refused> {
+    Hub::new(address, start)?;
+    let mut trace = TraceBuilder::with_hub(address, start);
     for (number, piece) in (1..).zip(pieces(text)) {
         let read = read_piece(piece).map_err(|refusal| Refused {
             line: Some(number),
@@ -79,14 +81,32 @@ pub fn to_text(trace: &[u8]) -> Result<Vec<u8>, Refused> {
     // A slice never fails to be read.
     while let Ok(Some(record)) = reader.next_record() {
         match record.map_err(|_| Refusal::RecordMalformed)? {
-            Record::HubAddress { address } => {
-                Hub::new(address)?;
+            Record::HubAddress { address, start } => {
+                Hub::new(address, start)?;
             }
             Record::Write { offset, values } => write_burst(&mut text, offset, values),
             _ => return Err(Refusal::NoTextForm.into()),
         }
     }
     Ok(text)
+}
+
+/// A trace's own address and start: its first record alone is looked at.
+pub fn hub_of(trace: &[u8]) -> Result<(u8, Start), Refused> {
+    match RecordReader::new(trace).next_record() {
+        Ok(Some(Ok(Record::HubAddress { address, start }))) => {
+            Hub::new(address, start)?;
+            Ok((address, start))
+        }
+        _ => Err(Refusal::RecordMalformed.into()),
+    }
+}
+
+/// Whether a trace that was made of a text is its hub record alone.
+pub fn has_no_write(trace: &[u8]) -> bool {
+    trace
+        .get(3)
+        .is_some_and(|&length| trace.len() == 4 + usize::from(length))
 }
 
 /// Offsets go round after FF.

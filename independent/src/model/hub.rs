@@ -3,6 +3,7 @@
 use super::frames::Frames;
 use super::refusal::Refusal;
 use super::registers::{RegisterFile, FWD_CTL1, RAW10_ID, RAW12_ID};
+use super::start::Start;
 
 #[derive(Clone, Debug, PartialEq, Eq)]
 pub struct Hub {
@@ -12,14 +13,14 @@ pub struct Hub {
 }
 
 impl Hub {
-    /// A hub after reset; its own 7-bit address lies in 0x08 to 0x77.
-    pub fn new(address: u8) -> Result<Hub, Refusal> {
+    /// A hub as it starts; its own 7-bit address lies in 0x08 to 0x77.
+    pub fn new(address: u8, start: Start) -> Result<Hub, Refusal> {
         if !(0x08..=0x77).contains(&address) {
             return Err(Refusal::AddressOutOfRange);
         }
         Ok(Hub {
             address,
-            registers: RegisterFile::after_reset(),
+            registers: RegisterFile::at_start(start),
             frames: Frames::default(),
         })
     }

@@ -1,8 +1,9 @@
-//! The second opinion: the rules of document 01 and of requests L1 to L3, written anew from the
+//! The second opinion: the rules of document 01 and of requests L1 to L5, written anew from the
 //! papers. It needs nothing of the other folders, and can be read by itself, best in this order.
 
-// The registers, with the SCL times (L2).
+// The registers, with the SCL times (L2) and the two starts (L5).
 pub mod registers;
+pub mod start;
 
 // The hub, and who hears an address.
 pub mod addresses;

@@ -61,8 +61,8 @@ impl Player {
     }
 
     fn try_answer(&mut self, record: &Record) -> Result<Answer, Refusal> {
-        if let Record::HubAddress { address } = *record {
-            self.hub = Some(Hub::new(address)?);
+        if let Record::HubAddress { address, start } = *record {
+            self.hub = Some(Hub::new(address, start)?);
             return Ok(Answer::Hub { address });
         }
         let hub = self.hub.as_mut().ok_or(Refusal::RecordMalformed)?;

@@ -1,6 +1,8 @@
 //! The register file: reset values and masks of all offsets, and how writes and reads move
 //! through the page selection.
 
+use super::start::Start;
+
 pub const SCL_HIGH_TIME: u8 = 0x0A;
 pub const SCL_LOW_TIME: u8 = 0x0B;
 pub const MAX_FRM_HI: u8 = 0x1D;
@@ -93,6 +95,16 @@ impl RegisterFile {
             } else {
                 file.shared[offset as usize] = register(offset).reset;
             }
+        }
+        file
+    }
+
+    /// The data sheet's start is its reset; the board's differs in the largest frame number alone.
+    pub fn at_start(start: Start) -> Self {
+        let mut file = Self::after_reset();
+        if start == Start::Board {
+            file.shared[MAX_FRM_HI as usize] = 0;
+            file.shared[MAX_FRM_LO as usize] = 0;
         }
         file
     }

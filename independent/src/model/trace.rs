@@ -1,6 +1,7 @@
 //! Traces: the records of a file, read one at a time, and why a record is malformed.
 
 use super::addresses::Direction;
+use super::start::Start;
 use std::io::{self, ErrorKind, Read};
 
 pub const MARK: [u8; 2] = [0x9A, 0x64];
@@ -25,7 +26,7 @@ pub const KINDS: [u8; 7] = [
 
 #[derive(Clone, Copy, Debug, PartialEq, Eq)]
 pub enum Record<'a> {
-    HubAddress { address: u8 },
+    HubAddress { address: u8, start: Start },
     Write { offset: u8, values: &'a [u8] },
     Read { offset: u8 },
     Address { address: u8, direction: Direction },
@@ -44,6 +45,7 @@ pub enum Malformed {
     Length,
     Cut,
     Direction,
+    SecondByte,
 }
 
 pub struct RecordReader<R> {
@@ -111,7 +113,8 @@ fn check_head(head: &[u8], first: bool) -> Result<(), Malformed> {
         _ => {}
     }
     let length_is_right = match kind {
-        HUB_ADDRESS | READ | FRAME_END => length == 1,
+        HUB_ADDRESS => length == 1 || length == 2,
+        READ | FRAME_END => length == 1,
         ADDRESS | FRAME_START => length == 2,
         LINE => length == 5,
         _ => length >= 2,
@@ -125,7 +128,10 @@ fn check_head(head: &[u8], first: bool) -> Result<(), Malformed> {
 
 fn parse(kind: u8, data: &[u8]) -> Result<Record<'_>, Malformed> {
     Ok(match (kind, data) {
-        (HUB_ADDRESS, &[address]) => Record::HubAddress { address },
+        (HUB_ADDRESS, &[address, ref second @ ..]) => Record::HubAddress {
+            address,
+            start: start(second)?,
+        },
         (WRITE, &[offset, ref values @ ..]) => Record::Write { offset, values },
         (READ, &[offset]) => Record::Read { offset },
         (ADDRESS, &[address, direction]) => Record::Address {
@@ -145,4 +151,14 @@ fn parse(kind: u8, data: &[u8]) -> Result<Record<'_>, Malformed> {
         },
         _ => return Err(Malformed::Length),
     })
+}
+
+/// "The hub record may now have a second byte, only 0, for the data sheet's reset; with one byte it
+/// means the board's."
+fn start(second: &[u8]) -> Result<Start, Malformed> {
+    match second {
+        [] => Ok(Start::Board),
+        [0] => Ok(Start::Sheet),
+        _ => Err(Malformed::SecondByte),
+    }
 }

@@ -1,5 +1,6 @@
 //! Builds a trace record by record.
 
+use super::start::Start;
 use super::trace::{ADDRESS, FRAME_END, FRAME_START, HUB_ADDRESS, LINE, MARK, READ, WRITE};
 
 #[derive(Clone, Default)]
@@ -8,10 +9,13 @@ pub struct TraceBuilder {
 }
 
 impl TraceBuilder {
-    /// A trace that begins as it must, with the hub's own address.
-    pub fn with_hub(address: u8) -> TraceBuilder {
+    /// A trace that begins as it must, with the hub's own address and its start.
+    pub fn with_hub(address: u8, start: Start) -> TraceBuilder {
         let mut trace = TraceBuilder::default();
-        trace.record(HUB_ADDRESS, &[address]);
+        match start {
+            Start::Board => trace.record(HUB_ADDRESS, &[address]),
+            Start::Sheet => trace.record(HUB_ADDRESS, &[address, 0]),
+        }
         trace
     }
 

@@ -5,14 +5,20 @@ use super::things::things;
 use super::typed::shown;
 use super::Subject;
 use crate::facts::findings::finding::Kind;
+use crate::model::start::Start;
 
-/// "The file as it was typed [..]; `standard input` for `-`. Then ` on hub ` and the address."
+/// "The file as it was typed [..]; `standard input` for `-`. Then ` on hub ` and the address, then `, as
+/// the board starts` or `, as the data sheet starts`."
 pub fn first_line(subject: &Subject) -> Vec<u8> {
     let mut line = match subject.name {
         b"-" => b"standard input".to_vec(),
         name => shown(name),
     };
-    line.extend(format!(" on hub {:02X}", subject.answer.hub).bytes());
+    let start = match subject.answer.start {
+        Start::Board => "board",
+        Start::Sheet => "data sheet",
+    };
+    line.extend(format!(" on hub {:02X}, as the {start} starts", subject.answer.hub).bytes());
     line
 }
 

@@ -25,6 +25,7 @@ use crate::facts::given::{of_script, of_trace, Given};
 use crate::facts::run::{run, Run};
 use crate::model::convert::{pieces, Refused};
 use crate::model::registers::FPD3_PORT_SEL;
+use crate::model::start::Start;
 
 /// What a screen is about: the file's name as it was typed, and the facts.
 pub struct Subject<'a> {
@@ -37,9 +38,14 @@ pub struct Subject<'a> {
 }
 
 impl<'a> Subject<'a> {
-    pub fn of_script(name: &'a [u8], address: u8, text: &'a [u8]) -> Result<Subject<'a>, Refused> {
+    pub fn of_script(
+        name: &'a [u8],
+        address: u8,
+        start: Start,
+        text: &'a [u8],
+    ) -> Result<Subject<'a>, Refused> {
         let typed = Some(pieces(text).collect());
-        Subject::of(name, typed, of_script(address, text)?)
+        Subject::of(name, typed, of_script(address, start, text)?)
     }
 
     pub fn of_trace(name: &'a [u8], trace: &[u8]) -> Result<Subject<'a>, Refused> {

@@ -5,8 +5,13 @@ use crate::common::TestFolder;
 use independent::compare::answers::ANSWERS;
 use independent::compare::comparison::Findings;
 
-/// The program's words in those of the independent program; check says its status on descriptor 3.
+/// The program's words in those of the independent program, the start among them; check says its
+/// status on descriptor 3.
 pub const RIGHT: &str = "word=$1; shift
+case $1 in
+    board) shift ;;
+    sheet) shift; set -- --sheet \"$@\" ;;
+esac
 case $word in
     json) exec OWN show --json \"$@\" ;;
     show) exec OWN show \"$@\" ;;

@@ -4,6 +4,7 @@
 use independent::facts::answer::Answer;
 use independent::facts::findings::finding::{About, Finding};
 use independent::facts::given::{Given, Write};
+use independent::model::start::Start;
 
 pub type Writes<'a> = &'a [(u8, u8)];
 
@@ -11,6 +12,7 @@ pub fn given(writes: Writes) -> Given {
     let numbered = (1..).zip(writes);
     Given {
         hub: 0x3D,
+        start: Start::Sheet,
         writes: numbered
             .map(|(number, &(offset, value))| Write {
                 number,

@@ -9,8 +9,8 @@ use borrow.Author.Needs.{needs}
 use Rattle.hub.proofs.new.Statement.{statement}
 use Rattle.hub.proofs.new.Tie as tie
 
-reset-requires : tie.Need-reset-requires
-reset-requires c κs = search needs
+registers-at-requires : tie.Need-registers-at-requires
+registers-at-requires c κs = search needs
 
 hub-with-requires : tie.Need-hub-with-requires
 hub-with-requires c κs = search needs
@@ -19,10 +19,11 @@ is-hub-address-requires : tie.Need-is-hub-address-requires
 is-hub-address-requires c κs = search needs
 
 -- the hub, by either case
-made : (c : tie.After-hub-with) → c .hub-with .result ≡ hubAt (c .before .before .args .address)
+made : (c : tie.After-hub-with)
+    → c .hub-with .result ≡ hubAt (c .before .before .args .start) (c .before .before .args .address)
 made c =
     c .hub-with .ensures
-    ∙ ap (λ (file : RegisterFile). hubWith file (c .before .before .args .address)) (c .before .reset .ensures)
+    ∙ ap (λ (file : RegisterFile). hubWith file (c .before .before .args .address)) (c .before .registers-at .ensures)
 
 returns : tie.Need-returns
 returns c =
@@ -36,4 +37,4 @@ returns-2 c =
 pub new-spec : {M : Type 1} → statement M
 new-spec =
     tie.close
-    (tie.spec reset-requires hub-with-requires is-hub-address-requires returns returns-2)
+    (tie.spec registers-at-requires hub-with-requires is-hub-address-requires returns returns-2)

@@ -22,15 +22,16 @@ use Rattle.script.proofs.read_text.Tie as tie
 
 -- the calls that were counted, and whether their trace has room
 counted : (c : tie.After-has-room-for) →
-    let x = c .before .before .before .before .before .before .before .args in
+    let x = c .before .before .before .before .before .before .before .before .args in
     (calls : List RegisterWrite) × (scriptCalls (x .text .now) ≡ given calls)
-    × (hasRoom (length (x .out .now)) 0 (length (traceOf (x .address) calls)) ≡ c .has-room-for .result)
+    × (hasRoom (length (x .out .now)) 0 (length (traceOf (x .address) (x .start) calls)) ≡ c .has-room-for .result)
 counted c =
-    let k = c .before .before in
+    let h = c .before in
+    let k = h .before .before in
     let n = k .before .before in
     let x = n .before .before .before .args in
     let found = on-given length (scriptCalls (x .text .now)) (rw (k .count .given .1) at (n .count-calls .ensures)) in
-    (found .0, found .1, trace-room (x .address) (length (x .out .now)) (found .0) ∙ rw (sym (found .2)) (sym (c .has-room-for .ensures)))
+    (found .0, found .1, trace-room (x .address) (x .start) (length (x .out .now)) (found .0) ∙ rw (sym (found .2), sym (h .hub-length .ensures .0)) (sym (c .has-room-for .ensures)))
 
 count-calls-requires : tie.Need-count-calls-requires
 count-calls-requires c κs = search needs
@@ -44,16 +45,19 @@ enum-known-line-2 c = search needs
 enum-known-count : tie.Need-enum-known-count
 enum-known-count c = search needs
 
+hub-length-requires : tie.Need-hub-length-requires
+hub-length-requires c κs = search needs
+
 has-room-for-requires : tie.Need-has-room-for-requires
 has-room-for-requires c κs = search needs
 
 returns : tie.Need-returns
 returns c =
     let r = c .before in
-    let x = r .before .before .before .before .before .before .before .args in
+    let x = r .before .before .before .before .before .before .before .before .args in
     let found = counted r in
     let none = found .2 ∙ not-true (r .has-room-for .result) (c .if1 .taken) in
-    rw (found .1) (refusal (x .out .now) 0 8 (room-by (length (x .out .now)) 0 (traceOf (x .address) (found .0)) _ refl none))
+    rw (found .1) (refusal (x .out .now) 0 8 (room-by (length (x .out .now)) 0 (traceOf (x .address) (x .start) (found .0)) _ refl none))
 
 put-trace-requires : tie.Need-put-trace-requires
 put-trace-requires c κs = search needs
@@ -80,9 +84,9 @@ returns-4 c =
     let put = c .before .before in
     let e = put .before .before in
     let r = e .before in
-    let x = r .before .before .before .before .before .before .before .args in
+    let x = r .before .before .before .before .before .before .before .before .args in
     let found = counted r in
-    let trace = traceOf (x .address) (found .0) in
+    let trace = traceOf (x .address) (x .start) (found .0) in
     let enough = found .2 ∙ not-false (r .has-room-for .result) (e .if1 .left) in
     let inside = leb-true (0 + length trace) (length (x .out .now)) enough in
     let puts = put .put-trace .ensures (found .0) (found .1) in
@@ -98,6 +102,7 @@ read-text-spec =
     enum-known-line
     enum-known-line-2
     enum-known-count
+    hub-length-requires
     has-room-for-requires
     returns
     put-trace-requires

@@ -12,6 +12,9 @@ byte-at-requires c κs = search needs
 byte-at-requires-2 : tie.Need-byte-at-requires-2
 byte-at-requires-2 c κs = search needs
 
+hub-requires : tie.Need-hub-requires
+hub-requires c κs = search needs
+
 question-requires : tie.Need-question-requires
 question-requires c κs = search needs
 
@@ -23,7 +26,7 @@ number-requires-2 c κs = search needs
 
 returns : tie.Need-returns
 unfolding kindRowIn kindRows
-returns c = rw (c .match .keys1, c .before .before .byte-at .ensures)
+returns c = rw (c .before .match .keys1) (c .hub .ensures)
 
 returns-2 : tie.Need-returns-2
 unfolding kindRowIn kindRows
@@ -61,6 +64,7 @@ data-record-spec =
     (tie.spec
     byte-at-requires
     byte-at-requires-2
+    hub-requires
     question-requires
     number-requires
     number-requires-2

@@ -88,12 +88,14 @@ impl<'a> Calls<'a> {
             arguments.extend([self.said.as_os_str(), program.path.as_os_str()]);
             program.path = Path::new("/bin/sh");
         }
-        let address = match self.case.job {
-            Job::Script { address, .. } => Some(format!("{address:02X}")),
-            Job::Trace { .. } => None,
+        let hub = match self.case.job {
+            Job::Script { address, start, .. } => {
+                vec![start.name().into(), format!("{address:02X}")]
+            }
+            Job::Trace { .. } => Vec::new(),
         };
         arguments.push(word.name().as_ref());
-        arguments.extend(address.as_ref().map(OsStr::new));
+        arguments.extend(hub.iter().map(OsStr::new));
         arguments.push(self.file.as_os_str());
         program.run(&arguments, self.input(), expected)
     }
@@ -109,13 +111,15 @@ impl<'a> Calls<'a> {
 
     /// The call, what went in, and what came out.
     fn files(&self, word: Word, stdout: Vec<u8>, run: Run) -> Files {
-        let (ending, address) = match &self.case.job {
-            Job::Script { address, .. } => ("script", format!("{address:02X} ")),
+        let (ending, hub) = match &self.case.job {
+            Job::Script { address, start, .. } => {
+                ("script", format!("{} {address:02X} ", start.name()))
+            }
             Job::Trace { .. } => ("trace", String::new()),
         };
         let (word_name, what) = (word.name(), ending.to_uppercase());
         let file = self.file.display();
-        let call = format!("{word_name} {address}{what}\n{what} is {file}\n");
+        let call = format!("{word_name} {hub}{what}\n{what} is {file}\n");
         let [expected, actual] = word.endings();
         vec![
             ("call.txt", call.into_bytes()),

@@ -21,7 +21,7 @@ pub const POINTS: &[&str] = &[
 ];
 
 pub fn note(coverage: &mut Coverage, subject: &Subject) {
-    let Ok(mut hub) = Hub::new(subject.given.hub) else {
+    let Ok(mut hub) = Hub::new(subject.given.hub, subject.given.start) else {
         return; // there would be no subject
     };
     let lost = lost(&subject.given, &subject.run);

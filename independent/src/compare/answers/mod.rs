@@ -33,7 +33,9 @@ const MANY_WRITES: usize = 2000;
 const TOO_MANY_WRITES: usize = 20_000;
 
 pub static ANSWERS: Comparison = Comparison {
-    program: "a program that takes 'json ADDRESS SCRIPT' and 'json TRACE', and so show, check and check-json",
+    program:
+        "a program that takes 'json START ADDRESS SCRIPT' and 'json TRACE', and so show, check and \
+              check-json",
     cases: "cases",
     points: POINTS,
     refusals: "every refusal the program can give (2, 13, 14, 15)",
@@ -105,7 +107,11 @@ fn first_fault(
 fn subject<'a>(case: &'a Case, file: &'a Path) -> Result<Subject<'a>, Refused> {
     let name = file.as_os_str().as_encoded_bytes();
     match &case.job {
-        Job::Script { address, text } => Subject::of_script(name, *address, text),
+        Job::Script {
+            address,
+            start,
+            text,
+        } => Subject::of_script(name, *address, *start, text),
         Job::Trace { trace } => Subject::of_trace(name, trace),
     }
 }

@@ -2,46 +2,44 @@
 
 use super::right::Word;
 use super::{clash_points, lost_points, order_points, record_points, screen_points, write_points};
-use crate::compare::coverage::Coverage;
+use crate::compare::coverage::{joined, Coverage};
 use crate::facts::findings::finding::{Finding, Grade, Kind};
 use crate::generate::answers::{Case, Job};
 use crate::model::convert::Refused;
+use crate::model::registers::MAX_FRM_LO;
+use crate::model::start::Start;
 use crate::screens::Subject;
 
-pub const POINTS: &[&str] = &joined::<
-    {
-        HERE.len()
-            + order_points::POINTS.len()
-            + write_points::POINTS.len()
-            + clash_points::POINTS.len()
-            + screen_points::POINTS.len()
-            + lost_points::POINTS.len()
-    },
->();
+pub const POINTS: &[&str] = &joined::<COUNT>(PARTS);
 
-const fn joined<const COUNT: usize>() -> [&'static str; COUNT] {
-    let parts = [
-        HERE,
-        order_points::POINTS,
-        write_points::POINTS,
-        clash_points::POINTS,
-        screen_points::POINTS,
-        lost_points::POINTS,
-    ];
-    let mut all = [""; COUNT];
-    let (mut part, mut inside, mut place) = (0, 0, 0);
-    while place < COUNT {
-        if inside == parts[part].len() {
-            (part, inside) = (part + 1, 0);
-            continue;
-        }
-        all[place] = parts[part][inside];
-        (inside, place) = (inside + 1, place + 1);
-    }
-    all
-}
+const PARTS: &[&[&str]] = &[
+    HERE,
+    order_points::POINTS,
+    write_points::POINTS,
+    clash_points::POINTS,
+    screen_points::POINTS,
+    lost_points::POINTS,
+];
+
+const COUNT: usize = HERE.len()
+    + order_points::POINTS.len()
+    + write_points::POINTS.len()
+    + clash_points::POINTS.len()
+    + screen_points::POINTS.len()
+    + lost_points::POINTS.len();
 
 const HERE: &[&str] = &[
+    "a script at the board's start",
+    "a script at the sheet's start",
+    "a trace at the board's start",
+    "a trace at the sheet's start",
+    "a trace refused 2 at the sheet's start",
+    "a trace refused 13 for its second byte",
+    "a trace refused 13 for a hub record of 3 bytes",
+    "00 to 1E, as the board starts",
+    "00 to 1E, as the sheet does not start",
+    "04 to 1E, as the sheet starts",
+    "04 to 1E, as the board does not start",
     "a script taken",
     "a script of no bytes",
     "a script without a write",
@@ -115,6 +113,10 @@ pub fn note(
     match subject {
         Ok(subject) => {
             coverage.note(&format!("a {form} taken"));
+            coverage.note(&format!(
+                "a {form} at the {}'s start",
+                subject.given.start.name()
+            ));
             coverage.note(&format!("a {form}{no_bytes}"));
             note_taken(coverage, form, subject);
             screen_points::note(coverage, subject, words);
@@ -135,6 +137,7 @@ fn note_taken(coverage: &mut Coverage, form: &str, subject: &Subject) {
     if given.writes.is_empty() {
         coverage.note(&format!("a {form} without a write"));
     }
+    note_largest(coverage, subject);
     for finding in &answer.findings {
         let kind = finding.kind.name();
         coverage.note(&match finding.kind {
@@ -159,4 +162,19 @@ fn note_taken(coverage: &mut Coverage, form: &str, subject: &Subject) {
     order_points::note(coverage, given, run);
     write_points::note(coverage, run, &answer.findings);
     clash_points::note(coverage, run, answer);
+}
+
+/// The first write to 1E, where it gives what the register holds at one of the starts.
+fn note_largest(coverage: &mut Coverage, subject: &Subject) {
+    let mut writes = subject.given.writes.iter();
+    let first = writes.find(|write| write.offset == MAX_FRM_LO);
+    coverage.note(
+        match (first.map(|write| write.value), subject.given.start) {
+            (Some(0x00), Start::Board) => "00 to 1E, as the board starts",
+            (Some(0x00), Start::Sheet) => "00 to 1E, as the sheet does not start",
+            (Some(0x04), Start::Sheet) => "04 to 1E, as the sheet starts",
+            (Some(0x04), Start::Board) => "04 to 1E, as the board does not start",
+            _ => return,
+        },
+    );
 }

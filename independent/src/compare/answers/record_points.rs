@@ -2,10 +2,13 @@
 
 use crate::compare::coverage::Coverage;
 use crate::model::answer::Answer;
+use crate::model::hub::Hub;
 use crate::model::player::Player;
-use crate::model::trace::{Record, RecordReader};
+use crate::model::start::Start;
+use crate::model::trace::{Record, RecordReader, HUB_ADDRESS};
 
 pub fn note(coverage: &mut Coverage, trace: &[u8], refused: bool) {
+    note_hub(coverage, trace);
     let mut reader = RecordReader::new(trace);
     let mut player = Player::default();
     let (mut records, mut writes) = (0, 0);
@@ -30,6 +33,21 @@ pub fn note(coverage: &mut Coverage, trace: &[u8], refused: bool) {
     if !refused && records == 1 {
         coverage.note("a trace of the hub record alone");
     }
+}
+
+/// A hub record that is refused because of its second byte or of a third.
+fn note_hub(coverage: &mut Coverage, trace: &[u8]) {
+    coverage.note(match *trace {
+        [0x9A, 0x64, HUB_ADDRESS, 2, address, 0, ..] => match Hub::new(address, Start::Sheet) {
+            Ok(_) => return,
+            Err(_) => "a trace refused 2 at the sheet's start",
+        },
+        [0x9A, 0x64, HUB_ADDRESS, 2, _, _, ..] => "a trace refused 13 for its second byte",
+        [0x9A, 0x64, HUB_ADDRESS, 3, _, _, _, ..] => {
+            "a trace refused 13 for a hub record of 3 bytes"
+        }
+        _ => return,
+    });
 }
 
 fn note_burst(coverage: &mut Coverage, first: u8, count: usize) {

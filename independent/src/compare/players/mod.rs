@@ -8,6 +8,7 @@ mod tally;
 use super::comparison::{Comparison, Findings, Settings};
 use super::coverage::Coverage;
 use super::difference::{what_is_wrong, Difference, ExpectedStderr};
+use super::hub_points;
 use super::run::{with_context, Program, Run};
 use crate::generate::traces;
 use crate::model::player::{text_of, Totals};
@@ -64,6 +65,7 @@ pub fn play(trace: &[u8], coverage: &mut Coverage) -> (Vec<u8>, Totals) {
     if trace.is_empty() {
         coverage.note("an empty file");
     }
+    hub_points::note(coverage, trace);
     text_of(trace, &mut Tally::new(coverage))
 }
 

@@ -1,8 +1,13 @@
 //! The points that a comparison of players must reach.
 
+use crate::compare::coverage::joined;
+use crate::compare::hub_points;
 use crate::model::trace::{Malformed, Record};
 
-pub const POINTS: &[&str] = &[
+pub const POINTS: &[&str] = &joined::<{ HERE.len() + hub_points::POINTS.len() }>(PARTS);
+const PARTS: &[&[&str]] = &[HERE, hub_points::POINTS];
+
+const HERE: &[&str] = &[
     "an empty file",
     "H answered",
     "W answered",
@@ -24,6 +29,7 @@ pub const POINTS: &[&str] = &[
     "13 for the kind",
     "13 for the length",
     "13 for the direction",
+    "13 for a second byte other than 0",
     "13 for a record cut short",
     "13 for a first record not of kind 00",
     "13 for kind 00 again",
@@ -83,6 +89,13 @@ pub const POINTS: &[&str] = &[
     "L of 4096 pixels RAW10",
     "L of 4096 pixels RAW12",
     "L of type 10",
+    "R before a write at the board's start",
+    "R before a write at the sheet's start",
+    "R of 1E, not written, at the board's start",
+    "R of 1E, not written, at the sheet's start",
+    "S number 0, the largest not written, at the board's start",
+    "S numbers 1 2 3 4 1, the largest not written, at the sheet's start",
+    "S number above 0, the largest written, at the board's start",
     "S under largest number 0",
     "S under largest number 1",
     "S under largest number 65535",
@@ -135,5 +148,6 @@ pub fn malformed(why: Malformed) -> &'static str {
         Malformed::Length => "13 for the length",
         Malformed::Cut => "13 for a record cut short",
         Malformed::Direction => "13 for the direction",
+        Malformed::SecondByte => "13 for a second byte other than 0",
     }
 }

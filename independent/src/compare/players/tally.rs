@@ -9,7 +9,8 @@ use crate::model::format::Format;
 use crate::model::frames::Outcome;
 use crate::model::hub::Hub;
 use crate::model::player::Watch;
-use crate::model::registers::{register, FPD3_PORT_SEL};
+use crate::model::registers::{register, FPD3_PORT_SEL, MAX_FRM_HI, MAX_FRM_LO, PORTS};
+use crate::model::start::Start;
 use crate::model::trace::{Malformed, Record};
 
 pub struct Tally<'a> {
@@ -19,6 +20,28 @@ pub struct Tally<'a> {
     letter: &'static str,
     width: u16,
     old_number: u16,
+    since: SinceStart,
+}
+
+/// How the hub started, and what has come since.
+struct SinceStart {
+    start: Start,
+    is_written: bool,
+    /// Whether one of the registers with the largest frame number is written.
+    is_largest_written: bool,
+    /// The numbers of each port's starts while it is not.
+    numbers: [Vec<u16>; PORTS],
+}
+
+impl SinceStart {
+    fn of(start: Start) -> SinceStart {
+        SinceStart {
+            start,
+            is_written: false,
+            is_largest_written: false,
+            numbers: Default::default(),
+        }
+    }
 }
 
 impl Tally<'_> {
@@ -28,6 +51,7 @@ impl Tally<'_> {
             letter: "",
             width: 0,
             old_number: 0,
+            since: SinceStart::of(Start::Board),
         }
     }
 
@@ -58,11 +82,20 @@ impl Tally<'_> {
                 self.note("W of bits outside the mask");
             }
             registers.write(offset, value);
+            self.since.is_written = true;
+            self.since.is_largest_written |= matches!(offset, MAX_FRM_HI | MAX_FRM_LO);
             offset = offset.wrapping_add(1);
         }
     }
 
     fn note_read(&mut self, offset: u8, hub: &Hub) {
+        let start = self.since.start.name();
+        if !self.since.is_written {
+            self.note(&format!("R before a write at the {start}'s start"));
+        }
+        if offset == MAX_FRM_LO && !self.since.is_largest_written {
+            self.note(&format!("R of 1E, not written, at the {start}'s start"));
+        }
         let row = register(offset);
         if row.per_port {
             let port = hub.registers.read_port();
@@ -116,6 +149,7 @@ impl Tally<'_> {
         let kept = hub.frames.ports[usize::from(port & 3)];
         if event == Event::Start {
             self.note_number(kept.number, hub.registers.largest_frame_number());
+            self.note_start(port, kept.number, outcome);
         }
         let Outcome::Sent { output, packet } = outcome else {
             return self.note(&format!("{letter} drop"));
@@ -132,6 +166,31 @@ impl Tally<'_> {
             if packet.header[0] & 0x3F == 0x10 {
                 self.note("L of type 10");
             }
+        }
+    }
+
+    /// What a frame start says about how the hub started; a dropped one says nothing.
+    fn note_start(&mut self, port: u8, number: u16, outcome: Outcome) {
+        let since = &mut self.since;
+        if outcome == Outcome::Dropped {
+            since.numbers[usize::from(port & 3)].clear();
+            return;
+        }
+        match (since.start, since.is_largest_written, number) {
+            (Start::Board, false, 0) => {
+                self.note("S number 0, the largest not written, at the board's start")
+            }
+            (Start::Board, true, 1..) => {
+                self.note("S number above 0, the largest written, at the board's start")
+            }
+            (Start::Sheet, false, _) => {
+                let numbers = &mut since.numbers[usize::from(port & 3)];
+                numbers.push(number);
+                if *numbers == [1, 2, 3, 4, 1] {
+                    self.note("S numbers 1 2 3 4 1, the largest not written, at the sheet's start");
+                }
+            }
+            _ => {}
         }
     }
 
@@ -161,6 +220,9 @@ impl Watch for Tally<'_> {
             Err(why) => return self.note(malformed(why)),
         };
         self.letter = letter(record);
+        if let Record::HubAddress { start, .. } = *record {
+            self.since = SinceStart::of(start);
+        }
         let Some(hub) = hub else {
             return;
         };

@@ -71,7 +71,9 @@ impl Converter<'_> {
 
     fn run(&self, job: &Job, way: &Way, expected: u64) -> io::Result<Run> {
         let (given, out) = (self.given.as_os_str(), self.out.as_os_str());
-        let (Job::Text { trace: bytes } | Job::Trace { text: bytes, .. }) = job;
+        let (Job::Text { trace: bytes }
+        | Job::Start { trace: bytes }
+        | Job::Trace { text: bytes, .. }) = job;
         let (given, input) = if way.piped {
             ("-".as_ref(), Some(&bytes[..]))
         } else {
@@ -82,11 +84,13 @@ impl Converter<'_> {
         let call = |arguments: &[&OsStr]| self.program.run(arguments, input, expected);
         match job {
             Job::Text { .. } => call(&["text".as_ref(), given]),
-            Job::Trace { address, .. } => {
+            Job::Start { .. } => call(&["start".as_ref(), given]),
+            Job::Trace { address, start, .. } => {
                 let address = shown_address(*address, way.capitals);
                 let part = self.folder.join("part");
                 call(&[
                     "trace".as_ref(),
+                    start.name().as_ref(),
                     address.as_ref(),
                     given,
                     out,
@@ -149,9 +153,15 @@ fn input_files(job: &Job, way: &Way) -> Files {
     let from = |name| if way.piped { "-" } else { name };
     let (call, ending, given) = match job {
         Job::Text { trace } => (format!("convert text {}\n", from("TRACE")), "trace", trace),
-        Job::Trace { address, text } => {
-            let address = shown_address(*address, way.capitals);
-            let call = format!("convert trace {address} {} OUT PART\n", from("SCRIPT"));
+        Job::Start { trace } => (format!("convert start {}\n", from("TRACE")), "trace", trace),
+        Job::Trace {
+            address,
+            start,
+            text,
+        } => {
+            let (start, address) = (start.name(), shown_address(*address, way.capitals));
+            let script = from("SCRIPT");
+            let call = format!("convert trace {start} {address} {script} OUT PART\n");
             (call, "script", text)
         }
     };

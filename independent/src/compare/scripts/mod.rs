@@ -1,6 +1,6 @@
 //! The comparison of converters: numbered texts and traces of a seed, each turned by the program
-//! under test and by the model, byte for byte, until the first difference. A text that was made
-//! from a trace is turned back.
+//! under test and by the model, byte for byte, until the first difference. A trace's start is asked
+//! for, and a text that was made from a trace is turned back with it.
 
 mod border_points;
 mod converter;
@@ -15,6 +15,7 @@ use super::coverage::Coverage;
 use super::difference::Difference;
 use super::run::Program;
 use crate::generate::scripts::{self, Case, Job};
+use crate::model::convert::hub_of;
 use crate::model::player::end_state;
 use converter::{Converter, Fault};
 pub use outcome::named;
@@ -24,7 +25,8 @@ use std::io;
 use std::path::Path;
 
 pub static CONVERTERS: Comparison = Comparison {
-    program: "a program that takes 'trace ADDRESS SCRIPT OUT' and 'text TRACE'",
+    program:
+        "a program that takes 'trace START ADDRESS SCRIPT OUT', 'text TRACE' and 'start TRACE'",
     cases: "cases",
     points: POINTS,
     refusals: "every refusal the program can give (2, 13, 14, 15, 16)",
@@ -52,10 +54,16 @@ fn compare_one(settings: &Settings, folder: &Path, number: u64) -> io::Result<Fi
     };
     match case.job {
         Job::Trace { .. } => found.texts += 1,
-        Job::Text { .. } => found.traces += 1,
+        Job::Text { .. } | Job::Start { .. } => found.traces += 1,
     }
     points::note(&mut found.coverage, &case, &outcome);
     let mut fault = converter.check(&case.job, &case.way, &outcome)?;
+    if let (None, Job::Text { trace }) = (&fault, &case.job) {
+        let job = Job::Start {
+            trace: trace.clone(),
+        };
+        fault = converter.check(&job, &case.way, &Outcome::of(&job))?;
+    }
     if let (None, Job::Text { trace }, Outcome::Taken(text)) = (&fault, &case.job, outcome) {
         fault = turn_back(&converter, &case, trace, text)?;
     }
@@ -69,7 +77,7 @@ fn compare_one(settings: &Settings, folder: &Path, number: u64) -> io::Result<Fi
     Ok(found)
 }
 
-/// Reads the text of a trace again with its address: it has to play to the same end state.
+/// Reads the text of a trace again with its address and start: it has to play to the same end state.
 fn turn_back(
     converter: &Converter,
     case: &Case,
@@ -77,10 +85,14 @@ fn turn_back(
     text: Vec<u8>,
 ) -> io::Result<Option<Fault>> {
     let end = end_state(trace);
-    let Some(address) = end.as_ref().map(|hub| hub.address) else {
+    let Ok((address, start)) = hub_of(trace) else {
         return Ok(None); // a trace that has a text has a hub
     };
-    let job = Job::Trace { address, text };
+    let job = Job::Trace {
+        address,
+        start,
+        text,
+    };
     let outcome = Outcome::of(&job);
     let fault = converter.check(&job, &case.way, &outcome)?;
     match outcome {

@@ -2,7 +2,8 @@
 
 use crate::compare::difference::ExpectedStderr;
 use crate::generate::scripts::Job;
-use crate::model::convert::{refused_lines, to_text, to_trace, Refused};
+use crate::model::convert::{has_no_write, hub_of, refused_lines, to_text, to_trace, Refused};
+use crate::model::start::Start;
 
 /// So many refused lines are named; those behind them are counted.
 const MOST_NAMED: usize = 20;
@@ -16,8 +17,13 @@ pub enum Outcome {
 impl Outcome {
     pub fn of(job: &Job) -> Outcome {
         let turned = match job {
-            Job::Trace { address, text } => to_trace(*address, text),
+            Job::Trace {
+                address,
+                start,
+                text,
+            } => to_trace(*address, *start, text),
             Job::Text { trace } => to_text(trace),
+            Job::Start { trace } => hub_of(trace).map(said),
         };
         turned.map_or_else(Outcome::Refused, Outcome::Taken)
     }
@@ -32,7 +38,7 @@ impl Outcome {
     /// What the program prints.
     pub fn stdout(&self, job: &Job) -> Vec<u8> {
         match (self, job) {
-            (Outcome::Taken(text), Job::Text { .. }) => text.clone(),
+            (Outcome::Taken(text), Job::Text { .. } | Job::Start { .. }) => text.clone(),
             (Outcome::Refused(refused), _) => format!("{refused}\n").into_bytes(),
             _ => Vec::new(),
         }
@@ -41,7 +47,7 @@ impl Outcome {
     pub fn stderr(&self, job: &Job) -> ExpectedStderr {
         match (self, job) {
             // A note that there is no register write, only the hub record.
-            (Outcome::Taken(trace), Job::Trace { .. }) if trace.len() == 5 => {
+            (Outcome::Taken(trace), Job::Trace { .. }) if has_no_write(trace) => {
                 ExpectedStderr::OneLine
             }
             (Outcome::Taken(_), _) => ExpectedStderr::Nothing,
@@ -59,6 +65,11 @@ impl Outcome {
             _ => old,
         }
     }
+}
+
+/// A trace's address and start on one line.
+fn said((address, start): (u8, Start)) -> Vec<u8> {
+    format!("{address:02X} {}\n", start.name()).into_bytes()
 }
 
 /// How the command's words for refused lines begin.

@@ -2,25 +2,14 @@
 
 use super::outcome::Outcome;
 use super::{border_points, text_points, trace_points};
-use crate::compare::coverage::Coverage;
+use crate::compare::coverage::{joined, Coverage};
+use crate::compare::hub_points;
 use crate::generate::scripts::{Case, Job};
 
 /// All points, those at the borders last.
-pub const POINTS: &[&str] = &joined::<{ ELSEWHERE.len() + border_points::POINTS.len() }>();
-
-const fn joined<const COUNT: usize>() -> [&'static str; COUNT] {
-    let mut all = [""; COUNT];
-    let mut place = 0;
-    while place < COUNT {
-        all[place] = if place < ELSEWHERE.len() {
-            ELSEWHERE[place]
-        } else {
-            border_points::POINTS[place - ELSEWHERE.len()]
-        };
-        place += 1;
-    }
-    all
-}
+pub const POINTS: &[&str] = &joined::<COUNT>(PARTS);
+const PARTS: &[&[&str]] = &[ELSEWHERE, hub_points::POINTS, border_points::POINTS];
+const COUNT: usize = ELSEWHERE.len() + hub_points::POINTS.len() + border_points::POINTS.len();
 
 const ELSEWHERE: &[&str] = &[
     "a text from a file",
@@ -32,6 +21,8 @@ const ELSEWHERE: &[&str] = &[
     "a longer file replaced",
     "no file made by a refusal",
     "a file unchanged by a refusal",
+    "the board's start",
+    "the sheet's start",
     "the address 08",
     "the address 77",
     "an address with a capital letter",
@@ -141,13 +132,12 @@ const ELSEWHERE: &[&str] = &[
     "13 for the kind",
     "13 for the length",
     "13 for the direction",
+    "13 for a second byte other than 0",
     "13 for a record cut short",
     "13 for a first record not of kind 00",
     "13 for kind 00 again",
     "13 for a record of a kind without text",
     "13 for a write without a value",
-    "13 for a hub record with an address that no hub has",
-    "13 for a hub record with a right address",
     "13 for a write as first record",
     "13 for another first record",
     "2 in record 1 for 07",
@@ -165,7 +155,10 @@ const ELSEWHERE: &[&str] = &[
     "16 for kind 12",
     "16 before writes",
     "16 before a 13 of a trace",
-    "a trace's text read again",
+    "a trace's text read again at the board's start",
+    "a trace's text read again at the sheet's start",
+    "the board's start of a trace with no text",
+    "the sheet's start of a trace with no text",
 ];
 
 /// The points that a case reaches.
@@ -176,13 +169,21 @@ pub fn note(coverage: &mut Coverage, case: &Case, outcome: &Outcome) {
         "a file"
     };
     match &case.job {
-        Job::Trace { address, text } => {
+        Job::Trace {
+            address,
+            start,
+            text,
+        } => {
             coverage.note(&format!("a text from {source}"));
             border_points::note_text(coverage, text, source, outcome);
             text_points::note(coverage, case, *address, text, outcome);
+            if let Outcome::Taken(_) = outcome {
+                coverage.note(&format!("the {}'s start", start.name()));
+            }
         }
-        Job::Text { trace } => {
+        Job::Text { trace } | Job::Start { trace } => {
             coverage.note(&format!("a trace from {source}"));
+            hub_points::note(coverage, trace);
             border_points::note_trace(coverage, trace, source, outcome);
             trace_points::note(coverage, trace, outcome);
         }

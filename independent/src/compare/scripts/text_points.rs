@@ -8,6 +8,7 @@ use crate::generate::scripts::{Case, Kind};
 use crate::model::convert::{pieces, to_trace, Refused};
 use crate::model::refusal::Refusal;
 use crate::model::script_line::{read_shape, LONGEST_LINE};
+use crate::model::start::Start;
 
 pub fn note(coverage: &mut Coverage, case: &Case, address: u8, text: &[u8], outcome: &Outcome) {
     note_edit(coverage, case.kind, outcome);
@@ -83,7 +84,7 @@ fn note_refusal(coverage: &mut Coverage, address: u8, text: &[u8], refused: Refu
 
 /// What a text would give with a right address.
 fn refusal_of(text: &[u8]) -> String {
-    match to_trace(0x3D, text) {
+    match to_trace(0x3D, Start::Board, text) {
         Ok(_) => "a right text".into(),
         Err(refused) => format!("a {}", refused.refusal.number()),
     }

@@ -3,16 +3,20 @@
 use super::outcome::Outcome;
 use crate::compare::coverage::Coverage;
 use crate::compare::players::points::malformed;
-use crate::model::convert::to_text;
+use crate::model::convert::{hub_of, to_text};
 use crate::model::hub::Hub;
+use crate::model::start::Start;
 use crate::model::trace::{Malformed, Record, RecordReader, HUB_ADDRESS, WRITE};
 use crate::model::trace_builder::TraceBuilder;
 
 pub fn note(coverage: &mut Coverage, trace: &[u8], outcome: &Outcome) {
-    match outcome {
-        Outcome::Refused(_) => {}
-        Outcome::Taken(text) if text.is_empty() => coverage.note("the hub record alone"),
-        Outcome::Taken(_) => coverage.note("a trace's text read again"),
+    if let Ok((_, start)) = hub_of(trace) {
+        let start = start.name();
+        coverage.note(&match outcome {
+            Outcome::Refused(_) => format!("the {start}'s start of a trace with no text"),
+            Outcome::Taken(text) if text.is_empty() => "the hub record alone".into(),
+            Outcome::Taken(_) => format!("a trace's text read again at the {start}'s start"),
+        });
     }
     note_records(coverage, trace);
 }
@@ -29,7 +33,7 @@ fn note_records(coverage: &mut Coverage, trace: &[u8]) {
         let rest = trace.get(place + size..).unwrap_or_default();
         match record {
             Err(why) => return note_malformed(coverage, &trace[place..], why),
-            Ok(Record::HubAddress { address }) if Hub::new(address).is_err() => {
+            Ok(Record::HubAddress { address, start }) if Hub::new(address, start).is_err() => {
                 coverage.note(&format!("2 in record 1 for {address:02X}"));
                 return coverage.note(&format!("2 before {}", refusal_of(rest)));
             }
@@ -46,7 +50,7 @@ fn note_records(coverage: &mut Coverage, trace: &[u8]) {
 
 /// What the records after a refused one would give.
 fn refusal_of(rest: &[u8]) -> String {
-    let mut trace = TraceBuilder::with_hub(0x3D);
+    let mut trace = TraceBuilder::with_hub(0x3D, Start::Board);
     trace.raw(rest);
     match to_text(trace.as_bytes()) {
         Err(refused) => format!("a {} of a trace", refused.refusal.number()),
@@ -58,13 +62,8 @@ fn refusal_of(rest: &[u8]) -> String {
 fn note_malformed(coverage: &mut Coverage, bytes: &[u8], why: Malformed) {
     coverage.note(malformed(why));
     let kind = bytes.get(2).copied().unwrap_or(WRITE);
-    let address = bytes.get(4).copied().unwrap_or(0x3D);
     coverage.note(match (why, kind) {
         (Malformed::Length, WRITE) => "13 for a write without a value",
-        (Malformed::Length, HUB_ADDRESS) if Hub::new(address).is_err() => {
-            "13 for a hub record with an address that no hub has"
-        }
-        (Malformed::Length, HUB_ADDRESS) => "13 for a hub record with a right address",
         (Malformed::HubNotFirst, WRITE) => "13 for a write as first record",
         (Malformed::HubNotFirst, _) => "13 for another first record",
         (_, HUB_ADDRESS | WRITE) => return,

@@ -4,6 +4,8 @@ use super::setups::Writes;
 use crate::generate::rng::Rng;
 use crate::generate::scripts::lines;
 use crate::generate::values;
+use crate::model::start::Start;
+use crate::model::trace::HUB_ADDRESS;
 use crate::model::trace_builder::TraceBuilder;
 
 /// The most values that a record of kind 01 has.
@@ -81,8 +83,11 @@ fn number(rng: &mut Rng, byte: u8) -> String {
 
 /// The hub record and the writes; those to successive offsets are joined to bursts always, now and
 /// then, or never. Records that change no register stand between.
-pub fn trace(rng: &mut Rng, hub: u8, writes: &Writes) -> Vec<u8> {
-    let mut trace = TraceBuilder::with_hub(hub);
+pub fn trace(rng: &mut Rng, hub: u8, start: Start, writes: &Writes) -> Vec<u8> {
+    let mut trace = TraceBuilder::with_hub(hub, start);
+    if rng.one_in(30) {
+        trace = no_hub(rng, hub);
+    }
     let (joins, quiet) = (rng.pick(&[1, 1, 2, 1000]), rng.one_in(2));
     let mut rest = &writes[..];
     while let [(first, value), ..] = *rest {
@@ -105,6 +110,17 @@ pub fn trace(rng: &mut Rng, hub: u8, writes: &Writes) -> Vec<u8> {
         beside(rng, &mut trace);
     }
     trace.into_bytes()
+}
+
+/// A first record that would be the hub's, but for another second byte than 0 or for a third one.
+fn no_hub(rng: &mut Rng, hub: u8) -> TraceBuilder {
+    let mut trace = TraceBuilder::default();
+    match rng.below(3) {
+        0 => trace.record(HUB_ADDRESS, &[hub, 0, 0]),
+        1 => trace.record(HUB_ADDRESS, &[hub, rng.between(1, 255) as u8]),
+        _ => trace.record(HUB_ADDRESS, &[hub, rng.pick(&values::BAD_SECOND_BYTES)]),
+    }
+    trace
 }
 
 /// A read, a question or a frame, some of them refused.

@@ -12,6 +12,7 @@ pub use kinds::Kind;
 use super::rng::Rng;
 use super::samples::{whole_case, SCRIPTS};
 use super::{scheduled, scripts, traces, values};
+use crate::model::start::{Start, STARTS};
 use crate::model::trace_builder::TraceBuilder;
 use kinds::SCHEDULE;
 use setups::Writes;
@@ -20,8 +21,14 @@ use std::path::{Path, PathBuf};
 /// What the program is asked about.
 #[derive(Clone, Debug, PartialEq, Eq)]
 pub enum Job {
-    Script { address: u8, text: Vec<u8> },
-    Trace { trace: Vec<u8> },
+    Script {
+        address: u8,
+        start: Start,
+        text: Vec<u8>,
+    },
+    Trace {
+        trace: Vec<u8>,
+    },
 }
 
 impl Job {
@@ -60,7 +67,7 @@ const WEIGHBRIDGES: [&[u8]; 2] = [
 
 const HUB: u8 = 0x3D;
 const SAMPLES: u64 = (SCRIPTS.len() + WEIGHBRIDGES.len()) as u64 + 1;
-const EMPTY: u64 = SAMPLES + 4;
+const EMPTY: u64 = SAMPLES + 5;
 
 /// The case with this number in the comparison of a seed.
 pub fn numbered(seed: u64, number: u64) -> Case {
@@ -74,8 +81,16 @@ pub fn numbered(seed: u64, number: u64) -> Case {
         Kind::Sample => sample(turn as usize),
         Kind::Empty => empty(turn),
         Kind::Read => match scripts::numbered(seed, turn).job {
-            scripts::Job::Trace { address, text } => Job::Script { address, text },
-            scripts::Job::Text { trace } => Job::Trace { trace },
+            scripts::Job::Trace {
+                address,
+                start,
+                text,
+            } => Job::Script {
+                address,
+                start,
+                text,
+            },
+            scripts::Job::Text { trace } | scripts::Job::Start { trace } => Job::Trace { trace },
         },
         Kind::Played => Job::Trace {
             trace: traces::numbered(seed, turn).1,
@@ -91,6 +106,7 @@ fn sample(turn: usize) -> Job {
     match scripts.into_iter().nth(turn) {
         Some(text) => Job::Script {
             address: HUB,
+            start: Start::Board,
             text: text.to_vec(),
         },
         None => Job::Trace {
@@ -100,17 +116,18 @@ fn sample(turn: usize) -> Job {
 }
 
 fn empty(turn: u64) -> Job {
-    let (address, text) = (HUB, Vec::new());
-    let trace = Vec::new();
+    let script = |start, text: &[u8]| Job::Script {
+        address: HUB,
+        start,
+        text: text.to_vec(),
+    };
+    let trace = |start| TraceBuilder::with_hub(HUB, start).into_bytes();
     match turn {
-        0 => Job::Script { address, text },
-        1 => Job::Trace { trace },
-        2 => Job::Script {
-            address,
-            text: b"# nothing yet\n\n".to_vec(),
-        },
+        0 => script(Start::Board, b""),
+        1 => Job::Trace { trace: Vec::new() },
+        2 => script(Start::Sheet, b"# nothing yet\n\n"),
         _ => Job::Trace {
-            trace: TraceBuilder::with_hub(HUB).into_bytes(),
+            trace: trace(STARTS[turn as usize % 2]),
         },
     }
 }
@@ -123,18 +140,27 @@ fn written(kind: Kind, rng: &mut Rng) -> Job {
         10 => rng.pick(&values::BAD_HUB_ADDRESSES),
         _ => values::hub_address(rng),
     };
+    let start = values::start(rng);
     let writes = writes(kind, rng, address);
     if kind == Kind::Far {
         let text = forms::far_script(rng, &writes);
-        return Job::Script { address, text };
+        return Job::Script {
+            address,
+            start,
+            text,
+        };
     }
     let is_trace = rng.one_in(3) || kind == Kind::Bursts && !rng.one_in(6);
     if is_trace {
-        let trace = forms::trace(rng, address, &writes);
+        let trace = forms::trace(rng, address, start, &writes);
         return Job::Trace { trace };
     }
     let text = forms::script(rng, &writes);
-    Job::Script { address, text }
+    Job::Script {
+        address,
+        start,
+        text,
+    }
 }
 
 fn writes(kind: Kind, rng: &mut Rng, hub: u8) -> Writes {

@@ -14,16 +14,27 @@ pub use kinds::Kind;
 use crate::generate::rng::Rng;
 use crate::generate::samples::SCRIPTS;
 use crate::generate::{scheduled, values};
+use crate::model::start::{Start, STARTS};
 use kinds::SCHEDULE;
 
-/// What the program is asked for: the trace of a text, or the text of a trace.
+/// What the program is asked for: the trace of a text, or the text of a trace. Of each trace its
+/// address and start are asked for too, which is no case of its own.
 #[derive(Clone, Debug, PartialEq, Eq)]
 pub enum Job {
-    Trace { address: u8, text: Vec<u8> },
-    Text { trace: Vec<u8> },
+    Trace {
+        address: u8,
+        start: Start,
+        text: Vec<u8>,
+    },
+    Text {
+        trace: Vec<u8>,
+    },
+    Start {
+        trace: Vec<u8>,
+    },
 }
 
-/// How it is called; the address and the trace's file are for a text alone.
+/// How it is called; the address, the start and the trace's file are for a text alone.
 #[derive(Clone, Debug, PartialEq, Eq)]
 pub struct Way {
     /// Whether the text or the trace comes through standard input.
@@ -101,7 +112,16 @@ fn job(kind: Kind, rng: &mut Rng, turn: usize) -> (Job, Option<&'static str>) {
         Kind::Address => rng.pick(&values::BAD_HUB_ADDRESSES),
         _ => values::hub_address(rng),
     };
-    (Job::Trace { address, text }, wrong)
+    let start = match kind {
+        Kind::Sample => STARTS[turn % 2],
+        _ => values::start(rng),
+    };
+    let job = Job::Trace {
+        address,
+        start,
+        text,
+    };
+    (job, wrong)
 }
 
 fn text(kind: Kind, rng: &mut Rng, turn: usize) -> Vec<u8> {

@@ -3,6 +3,7 @@
 use crate::generate::rng::Rng;
 use crate::generate::traces::{self, Kind};
 use crate::generate::values;
+use crate::model::start::Start;
 use crate::model::trace::{ADDRESS, FRAME_END, FRAME_START, HUB_ADDRESS, LINE, MARK, READ, WRITE};
 use crate::model::trace_builder::TraceBuilder;
 
@@ -48,14 +49,14 @@ fn writes(trace: &mut TraceBuilder, rng: &mut Rng, most: u64) {
 
 /// The hub record and up to so many write records.
 pub fn right(rng: &mut Rng, most: u64) -> Vec<u8> {
-    let mut trace = TraceBuilder::with_hub(values::hub_address(rng));
+    let mut trace = TraceBuilder::with_hub(values::hub_address(rng), values::start(rng));
     writes(&mut trace, rng, most);
     trace.into_bytes()
 }
 
 /// Each offset and each value at least once, one value a record and in bursts.
 pub fn every_byte() -> Vec<u8> {
-    let mut trace = TraceBuilder::with_hub(0x3D);
+    let mut trace = TraceBuilder::with_hub(0x3D, Start::Board);
     let all: Vec<u8> = (0..=255).collect();
     for &byte in &all {
         trace.write(byte, 255 - byte);
@@ -67,7 +68,7 @@ pub fn every_byte() -> Vec<u8> {
 
 /// Few bytes with a bit of everything, for edits at each place.
 pub fn short() -> Vec<u8> {
-    let mut trace = TraceBuilder::with_hub(0x3D);
+    let mut trace = TraceBuilder::with_hub(0x3D, Start::Sheet);
     trace.write(0x4C, 0x0F);
     trace.burst(0xFE, &[0x00, 0x9A, 0x64, 0x01]);
     trace.write(0x58, 0x58);
@@ -117,7 +118,7 @@ fn no_record(trace: &mut TraceBuilder, rng: &mut Rng, turn: usize) {
 
 /// Among writes a record with no text form, and every other time what is no record.
 pub fn without_text(rng: &mut Rng, turn: usize) -> Vec<u8> {
-    let mut trace = TraceBuilder::with_hub(values::hub_address(rng));
+    let mut trace = TraceBuilder::with_hub(values::hub_address(rng), values::start(rng));
     writes(&mut trace, rng, 6);
     if turn.is_multiple_of(2) {
         no_text(&mut trace, rng, turn / 2, true);
@@ -128,29 +129,49 @@ pub fn without_text(rng: &mut Rng, turn: usize) -> Vec<u8> {
     trace.into_bytes()
 }
 
-/// The first record is right but not the hub's, or the hub's with no byte or two.
+/// The first record is right but not the hub's, or the hub's with a wrong length or second byte.
 pub fn first(rng: &mut Rng, turn: usize) -> Vec<u8> {
     let mut trace = TraceBuilder::default();
     match turn % 8 {
         0 => write(&mut trace, rng),
-        1 => trace.record(HUB_ADDRESS, &[]),
-        2 => trace.record(HUB_ADDRESS, &[0x3D, 0x00]),
+        1..=4 => {
+            let address = values::hub_address(rng);
+            trace.record(HUB_ADDRESS, &no_hub(rng, address, turn));
+        }
         _ => no_text(&mut trace, rng, turn, true),
     }
     writes(&mut trace, rng, 3);
     trace.into_bytes()
 }
 
+/// The data of a hub record that is none: no byte, another second byte than 0, or more than two.
+fn no_hub(rng: &mut Rng, address: u8, turn: usize) -> Vec<u8> {
+    match turn % 4 {
+        1 => Vec::new(),
+        2 => {
+            let seconds = values::BAD_SECOND_BYTES;
+            vec![address, seconds[turn / 8 % seconds.len()]]
+        }
+        3 => vec![address, rng.between(1, 255) as u8],
+        _ => {
+            let zeros = rng.pick(&[2, 2, 3, 254]);
+            [vec![address], vec![0; zeros]].concat()
+        }
+    }
+}
+
 /// A hub record with an address that no hub has; every fourth time it is not even a record.
 pub fn bad_hub(rng: &mut Rng, turn: usize) -> Vec<u8> {
     let addresses = values::BAD_HUB_ADDRESSES;
     let address = addresses[turn % addresses.len()];
-    let mut trace = TraceBuilder::default();
-    if rng.one_in(4) {
-        trace.record(HUB_ADDRESS, &[address, address]);
+    let mut trace = if rng.one_in(4) {
+        let mut trace = TraceBuilder::default();
+        let wrong = rng.between(2, 4) as usize;
+        trace.record(HUB_ADDRESS, &no_hub(rng, address, wrong));
+        trace
     } else {
-        trace.record(HUB_ADDRESS, &[address]);
-    }
+        TraceBuilder::with_hub(address, values::start(rng))
+    };
     append_rest(&mut trace, rng, turn / addresses.len());
     trace.into_bytes()
 }

@@ -9,7 +9,7 @@ use crate::model::trace_builder::TraceBuilder;
 
 pub fn trace(rng: &mut Rng) -> Vec<u8> {
     let hub = values::hub_address(rng);
-    let mut trace = TraceBuilder::with_hub(hub);
+    let mut trace = TraceBuilder::with_hub(hub, values::start(rng));
     let mut pool = vec![hub << 1, 0x00, 0x01];
     for _ in 0..rng.between(1, 5) {
         pool.push(rng.byte());

@@ -20,7 +20,7 @@ const LISTED: [(u8, u8); 11] = [
 ];
 
 pub fn trace(rng: &mut Rng) -> Vec<u8> {
-    let mut trace = TraceBuilder::with_hub(values::hub_address(rng));
+    let mut trace = TraceBuilder::with_hub(values::hub_address(rng), values::start(rng));
     for _ in 0..rng.between(1, 4) {
         trace.write(FPD3_PORT_SEL, values::selection(rng));
         burst(&mut trace, rng);

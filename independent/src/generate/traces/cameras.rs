@@ -11,7 +11,7 @@ use crate::model::trace_builder::TraceBuilder;
 
 pub fn trace(rng: &mut Rng) -> Vec<u8> {
     let hub = values::hub_address(rng);
-    let mut trace = TraceBuilder::with_hub(hub);
+    let mut trace = TraceBuilder::with_hub(hub, values::start(rng));
     let mut addresses = set_up(&mut trace, rng);
     addresses.extend([hub, 0x00, rng.byte() & 0x7F]);
     for _ in 0..rng.between(1, 3) {

@@ -3,7 +3,9 @@
 use super::traffic;
 use crate::generate::rng::Rng;
 use crate::generate::samples::whole_case;
+use crate::generate::values;
 use crate::model::trace::{KINDS, MARK};
+use crate::model::trace_builder::TraceBuilder;
 
 /// The whole case in even turns, so that its every place comes up; else a random trace.
 fn good(rng: &mut Rng, turn: u64) -> Vec<u8> {
@@ -108,7 +110,7 @@ pub fn noise(rng: &mut Rng, turn: u64) -> Vec<u8> {
         let count = rng.below(300) as usize;
         return rng.bytes(count);
     }
-    let mut bytes = vec![MARK[0], MARK[1], 0x00, 0x01, 0x3D];
+    let mut bytes = TraceBuilder::with_hub(0x3D, values::start(rng)).into_bytes();
     for _ in 0..rng.between(1, 40) {
         bytes.extend(MARK);
         bytes.push(if rng.one_in(12) {

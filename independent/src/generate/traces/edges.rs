@@ -15,7 +15,7 @@ pub fn trace(rng: &mut Rng, turn: u64) -> Vec<u8> {
         place if place % 2 == 0 => 0x08,
         _ => 0x77,
     };
-    let mut trace = TraceBuilder::with_hub(hub);
+    let mut trace = TraceBuilder::with_hub(hub, values::start(rng));
     let port = rng.below(4) as u8;
     trace.write(FPD3_PORT_SEL, 1 << port | (rng.below(4) as u8) << 4);
     match turn % 5 {

@@ -5,6 +5,7 @@ use super::cameras;
 use crate::generate::rng::Rng;
 use crate::generate::values;
 use crate::model::registers::{BCC_CONFIG, FPD3_PORT_SEL, FWD_CTL1, TARGETS, TARGET_ALIAS_0};
+use crate::model::start::Start;
 use crate::model::trace_builder::TraceBuilder;
 use std::io::{self, Write};
 
@@ -59,7 +60,7 @@ pub fn in_memory(rng: &mut Rng, records: u64) -> Vec<u8> {
 
 /// The set-up of the four cameras, record by record.
 fn opening(rng: &mut Rng) -> Vec<Vec<u8>> {
-    let mut trace = TraceBuilder::with_hub(0x3D);
+    let mut trace = TraceBuilder::with_hub(0x3D, Start::Board);
     cameras::set_up(&mut trace, rng);
     trace.write(FWD_CTL1, 0x0C);
     let mut rest = trace.as_bytes();

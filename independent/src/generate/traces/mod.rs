@@ -9,11 +9,13 @@ pub mod large;
 mod numbers;
 mod orders;
 mod shapes;
+mod starts;
 mod traffic;
 
 use super::rng::Rng;
 use super::samples::whole_case;
 use super::scheduled;
+use starts::EVERY_SECOND_BYTE;
 
 #[derive(Clone, Copy, Debug, PartialEq, Eq)]
 pub enum Kind {
@@ -31,6 +33,9 @@ pub enum Kind {
     BrokenMark,
     Trailing,
     Shapes,
+    Starts,
+    SecondByte,
+    HubLength,
     Noise,
     Empty,
     OneByte,
@@ -38,7 +43,7 @@ pub enum Kind {
     Wrap,
 }
 
-const NAMES: [(Kind, &str); 19] = [
+const NAMES: [(Kind, &str); 22] = [
     (Kind::Case, "case"),
     (Kind::Cameras, "cameras"),
     (Kind::Traffic, "traffic"),
@@ -53,6 +58,9 @@ const NAMES: [(Kind, &str); 19] = [
     (Kind::BrokenMark, "broken-mark"),
     (Kind::Trailing, "trailing"),
     (Kind::Shapes, "shapes"),
+    (Kind::Starts, "starts"),
+    (Kind::SecondByte, "second-byte"),
+    (Kind::HubLength, "hub-length"),
     (Kind::Noise, "noise"),
     (Kind::Empty, "empty"),
     (Kind::OneByte, "one-byte"),
@@ -61,7 +69,7 @@ const NAMES: [(Kind, &str); 19] = [
 ];
 
 /// The many short traces of a comparison go round this list.
-const SCHEDULE: [Kind; 20] = [
+const SCHEDULE: [Kind; 24] = [
     Kind::Cameras,
     Kind::Traffic,
     Kind::ChangedByte,
@@ -71,7 +79,9 @@ const SCHEDULE: [Kind; 20] = [
     Kind::Cut,
     Kind::Traffic,
     Kind::Numbers,
+    Kind::Starts,
     Kind::Shapes,
+    Kind::SecondByte,
     Kind::Bursts,
     Kind::Inserted,
     Kind::Cameras,
@@ -81,8 +91,14 @@ const SCHEDULE: [Kind; 20] = [
     Kind::Orders,
     Kind::Trailing,
     Kind::Addresses,
+    Kind::Starts,
+    Kind::HubLength,
     Kind::Noise,
 ];
+
+/// Here each second byte of a hub record comes, whatever the schedule.
+const SECOND_BYTES: u64 = 1000;
+const REST: u64 = SECOND_BYTES + 256;
 
 /// The records of a `long` trace.
 const LONG: u64 = 100_000;
@@ -120,6 +136,9 @@ pub fn trace(kind: Kind, rng: &mut Rng, turn: u64) -> Vec<u8> {
         Kind::BrokenMark => damage::broken_mark(rng, turn),
         Kind::Trailing => damage::trailing(rng, turn),
         Kind::Shapes => shapes::trace(rng, turn),
+        Kind::Starts => starts::trace(rng, turn),
+        Kind::SecondByte => starts::second_byte(rng, turn),
+        Kind::HubLength => starts::hub_length(rng, turn),
         Kind::Noise => damage::noise(rng, turn),
         Kind::Empty => Vec::new(),
         Kind::OneByte => vec![if turn.is_multiple_of(2) {
@@ -141,6 +160,7 @@ pub fn numbered(seed: u64, number: u64) -> (Kind, Vec<u8>) {
         2..=5 => (Kind::OneByte, number),
         200 => (Kind::Wrap, 0),
         400 | 600 | 800 => (Kind::Long, 0),
+        SECOND_BYTES..REST => (Kind::SecondByte, number - SECOND_BYTES + EVERY_SECOND_BYTE),
         _ => scheduled(&SCHEDULE, number),
     };
     (kind, trace(kind, &mut rng, turn))

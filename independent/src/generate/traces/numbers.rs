@@ -6,7 +6,7 @@ use crate::model::registers::{FWD_CTL1, MAX_FRM_HI, MAX_FRM_LO};
 use crate::model::trace_builder::TraceBuilder;
 
 pub fn trace(rng: &mut Rng) -> Vec<u8> {
-    let mut trace = TraceBuilder::with_hub(values::hub_address(rng));
+    let mut trace = TraceBuilder::with_hub(values::hub_address(rng), values::start(rng));
     trace.write(FWD_CTL1, rng.below(16) as u8);
     for _ in 0..rng.between(2, 6) {
         set_largest(&mut trace, rng);
@@ -25,7 +25,7 @@ pub fn trace(rng: &mut Rng) -> Vec<u8> {
     trace.into_bytes()
 }
 
-fn set_largest(trace: &mut TraceBuilder, rng: &mut Rng) {
+pub fn set_largest(trace: &mut TraceBuilder, rng: &mut Rng) {
     let largest: u16 = match rng.below(4) {
         0 => rng.word(),
         1 => rng.pick(&[0, 1, 0xFF, 0x100, 0x101, 0xFFFE, 0xFFFF]),
@@ -40,7 +40,7 @@ fn set_largest(trace: &mut TraceBuilder, rng: &mut Rng) {
 
 /// More than 65535 frames under the largest number there is.
 pub fn wrap_at_65535(rng: &mut Rng) -> Vec<u8> {
-    let mut trace = TraceBuilder::with_hub(values::hub_address(rng));
+    let mut trace = TraceBuilder::with_hub(values::hub_address(rng), values::start(rng));
     let port = rng.below(4) as u8;
     trace.burst(MAX_FRM_HI, &[0xFF, 0xFF]);
     trace.write(FWD_CTL1, 0x0F & rng.byte());

@@ -8,7 +8,7 @@ use crate::model::registers::{
 use crate::model::trace_builder::TraceBuilder;
 
 pub fn trace(rng: &mut Rng, turn: u64) -> Vec<u8> {
-    let mut trace = TraceBuilder::with_hub(0x3D);
+    let mut trace = TraceBuilder::with_hub(0x3D, values::start(rng));
     match turn % 4 {
         0 => starts(&mut trace, rng),
         1 => ends(&mut trace, rng),

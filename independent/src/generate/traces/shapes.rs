@@ -1,7 +1,8 @@
 //! Record shapes: every kind with every short length, as first record and later ones.
 
 use crate::generate::rng::Rng;
-use crate::generate::samples::whole_case;
+use crate::generate::samples::after_the_hub;
+use crate::generate::values;
 use crate::model::trace_builder::TraceBuilder;
 
 const SHAPED: [u8; 12] = [
@@ -17,14 +18,14 @@ pub fn trace(rng: &mut Rng, turn: u64) -> Vec<u8> {
     let mut trace = if first {
         TraceBuilder::default()
     } else {
-        TraceBuilder::with_hub(0x3D)
+        TraceBuilder::with_hub(0x3D, values::start(rng))
     };
     if !first && rng.one_in(2) {
         trace.start(0, 10);
         trace.write(0x4C, rng.byte());
     }
     trace.record(kind, &data(rng, length));
-    trace.raw(&whole_case()[5..]);
+    trace.raw(&after_the_hub());
     trace.into_bytes()
 }
 

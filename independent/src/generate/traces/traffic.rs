@@ -6,7 +6,7 @@ use crate::model::trace_builder::TraceBuilder;
 
 pub fn trace(rng: &mut Rng) -> Vec<u8> {
     let hub = values::hub_address(rng);
-    let mut trace = TraceBuilder::with_hub(hub);
+    let mut trace = TraceBuilder::with_hub(hub, values::start(rng));
     for _ in 0..rng.between(5, 200) {
         record(&mut trace, rng, hub);
     }

@@ -11,11 +11,11 @@ is-hub-address-requires c κs = search needs
 
 returns : tie.Need-returns
 unfolding callsAsked
-returns c = rw (sym (c .before .is-hub-address .ensures), c .if1 .taken)
+returns c = λ start. rw (sym (c .before .is-hub-address .ensures), c .if1 .taken)
 
 returns-2 : tie.Need-returns-2
 unfolding callsAsked
-returns-2 c = rw (sym (c .before .is-hub-address .ensures), c .if1 .left)
+returns-2 c = λ start. rw (sym (c .before .is-hub-address .ensures), c .if1 .left)
 
 pub hub-calls-spec : {M : Type 1} → statement M
 hub-calls-spec = tie.close (tie.spec is-hub-address-requires returns returns-2)

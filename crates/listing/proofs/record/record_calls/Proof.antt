@@ -40,7 +40,7 @@ hub-calls-requires c κs = search needs
 returns-2 : tie.Need-returns-2
 returns-2 c =
     let hub = c .before .before in
-    rw (found (hub .before .before .before), hub .asked2 .given .1) (c .hub-calls .ensures)
+    rw (found (hub .before .before .before), hub .asked2 .given .1) (c .hub-calls .ensures _)
 
 enum-told-2 : tie.Need-enum-told-2
 enum-told-2 c = search needs
@@ -61,7 +61,7 @@ returns-4 c =
     rw (
       found f,
       no-text-form (dataOf (x .bytes .now)) (f .asked .given .0 .0)
-          (λ address e. miss (1 ∷ 2 ∷ 3 ∷ 4 ∷ 5 ∷ 6 ∷ 7 ∷ []) 0 tt (rw e at (c .before .match2 .keys2)))
+          (λ address start e. miss (1 ∷ 2 ∷ 3 ∷ 4 ∷ 5 ∷ 6 ∷ 7 ∷ []) 0 tt (rw e at (c .before .match2 .keys2)))
           (λ offset e. miss (0 ∷ 2 ∷ 3 ∷ 4 ∷ 5 ∷ 6 ∷ 7 ∷ []) 1 tt (rw e at (c .match3 .keys2))),
     )
 

@@ -96,7 +96,7 @@ returns-4 c =
     let f = c .before .before .before .before in
     let x = startAt f .args in
     one-other (x .records) (x .left .now) (x .values .now) (f .asked .given .0 .0) (found f)
-    (λ address e. miss (1 ∷ 2 ∷ 3 ∷ 4 ∷ 5 ∷ 6 ∷ 7 ∷ []) 0 tt (rw e at (c .before .before .match2 .keys2)))
+    (λ address start e. miss (1 ∷ 2 ∷ 3 ∷ 4 ∷ 5 ∷ 6 ∷ 7 ∷ []) 0 tt (rw e at (c .before .before .match2 .keys2)))
     (λ offset e. miss (0 ∷ 2 ∷ 3 ∷ 4 ∷ 5 ∷ 6 ∷ 7 ∷ []) 1 tt (rw e at (c .before .match3 .keys2)))
     (c .passed-as2 .ensures)
 

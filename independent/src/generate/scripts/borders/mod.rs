@@ -6,6 +6,7 @@ mod traces;
 
 use super::Job;
 use crate::generate::rng::Rng;
+use crate::generate::values;
 
 /// The bytes that the program `convert` reads and writes at a time; no rule of the papers.
 pub const WINDOW: usize = 65_536;
@@ -23,8 +24,11 @@ pub fn job(rng: &mut Rng, turn: usize) -> Job {
     let turn = turn / 2;
     if turn < texts::COUNT {
         let text = texts::text(rng, turn);
-        let address = ADDRESS;
-        return Job::Trace { address, text };
+        return Job::Trace {
+            address: ADDRESS,
+            start: values::start(rng),
+            text,
+        };
     }
     let trace = traces::trace(rng, turn - texts::COUNT);
     Job::Text { trace }

@@ -2,6 +2,7 @@
 
 use super::{ADDRESS, WINDOW};
 use crate::generate::rng::Rng;
+use crate::generate::values;
 use crate::model::trace::{HUB_ADDRESS, READ};
 use crate::model::trace_builder::TraceBuilder;
 
@@ -48,7 +49,7 @@ fn large(rng: &mut Rng, turn: usize) -> Vec<u8> {
 
 /// The hub record and so many values, up to `most` in a record.
 fn with_values(rng: &mut Rng, count: usize, most: usize) -> Vec<u8> {
-    let mut trace = TraceBuilder::with_hub(ADDRESS);
+    let mut trace = TraceBuilder::with_hub(ADDRESS, values::start(rng));
     for values in rng.bytes(count).chunks(most) {
         trace.burst(rng.byte(), values);
     }
@@ -94,7 +95,7 @@ fn write(trace: &mut TraceBuilder, rng: &mut Rng, size: usize) {
 
 /// The hub record and write records of these sizes, the last ones so that all have `length`.
 fn right(rng: &mut Rng, length: usize, sizes: &[usize]) -> TraceBuilder {
-    let mut trace = TraceBuilder::with_hub(ADDRESS);
+    let mut trace = TraceBuilder::with_hub(ADDRESS, values::start(rng));
     loop {
         let size = rng.pick(sizes);
         let size = match length - trace.as_bytes().len() {
