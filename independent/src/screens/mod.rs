@@ -1,5 +1,5 @@
-//! The screens of `show` and `check`: plain text for a clerk, written from docs/SHOW.md alone, whose
-//! sentences are quoted where they are followed.
+//! The screens of `show` and `check`: plain text for a clerk, by docs/SHOW.md, whose sentences are
+//! quoted where they are followed. Decision 82 says how far they are a second opinion.
 
 mod addresses;
 mod check;
