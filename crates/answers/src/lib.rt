@@ -1,4 +1,6 @@
 // What the records of a trace are answered, and whether that is a refusal.
+#![tactic(auto)]
+
 ghost use Rattle.std.specs.Prelude.{◌≡◌};
 ghost use Rattle.laws.specs.Reply.{is_refused};
 ghost use Rattle.answers.specs.Answers.{answer_reply};

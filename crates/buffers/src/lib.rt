@@ -1,4 +1,6 @@
 // Lent buffers: whether bytes have room from a place on, bytes put there, and bytes read.
+#![tactic(auto)]
+
 ghost use Rattle.std.specs.Prelude.{◌≡◌, [], ◌∷◌, ◌+◌, ◌*◌, get_or, drop};
 ghost use Rattle.laws.specs.Buffers.{has_room};
 ghost use Rattle.buffers.specs.Putting.{Puts};

@@ -1,4 +1,6 @@
 // A line of an installer's script: blank, one call, or of another shape.
+#![tactic(auto)]
+
 ghost use Rattle.std.specs.Prelude.{◌≡◌};
 ghost use Rattle.std.proofs.Math.Option.{some};
 ghost use Rattle.laws.specs.Texts.{ascii};

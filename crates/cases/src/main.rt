@@ -1,5 +1,7 @@
 // Runs the worked cases of document 01, the data sheet's table of SCL times and the cases of L3, and prints what the
 // model answers, one line a case.
+#![tactic(auto)]
+
 mod frame_cases;
 mod packet_cases;
 mod print;

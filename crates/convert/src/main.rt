@@ -1,5 +1,7 @@
 // The program `convert`: turns an installer's script into a trace, and a trace into the text of a script. The front
 // door runs it for the commands trace, run, text and start.
+#![tactic(auto)]
+
 mod part;
 mod to_start;
 mod to_text;

@@ -1,6 +1,8 @@
 // The checksum (CRC) of a CSI-2 payload, sixteen bytes a step, and 256 where it is long. It needs no table: the
 // polynomial has four terms, so many shifts of the register at once are a few shifts and sums of whole words. (A
 // constant array that is read at places which the compiler cannot tell is stored anew by each call.)
+#![tactic(auto)]
+
 ghost use Rattle.std.specs.Prelude.{◌≡◌, ℕ, ◌+◌, ◌≤◌, ◌<◌, length, take, drop};
 ghost use Rattle.crc.specs.Checksum.{crc_from, crc_of};
 ghost use Rattle.crc.specs.WideRegister.{shifts, Holds, after_word, after_window, after_words, StandFor, SumOfFirst};

@@ -1,4 +1,6 @@
 // The check byte (ECC) of a CSI-2 packet header, and the correction of one wrong bit.
+#![tactic(auto)]
+
 ghost use Rattle.std.specs.Prelude.{◌≡◌, ◌<◌};
 ghost use Rattle.laws.specs.Reply.{given};
 ghost use Rattle.laws.specs.Tables.{tabulate};

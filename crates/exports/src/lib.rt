@@ -1,6 +1,8 @@
 // Functions of `ecc`, `crc`, `packing`, `unpacking`, `csi2` and `reader` for programs in C and Rust. An answer that may
 // be a refusal is one number (specs/Numbers.antt). A slice is passed as its address and its length: the caller answers
 // for both, and that no other slice overlaps a `&mut` one.
+#![tactic(auto)]
+
 ghost use Rattle.std.specs.Prelude.{◌≡◌, length};
 ghost use Rattle.laws.specs.Reply.{on_reply};
 ghost use Rattle.formats.specs.declared.Format.TheVariants.{Raw10, Raw12};

@@ -1,5 +1,7 @@
 // The findings at a write of a script, while its writes are gone through: what is known between two writes, and for
 // each kind whether it is found at the write that comes next. (Of all writes only their extent has to be known before.)
+#![tactic(auto)]
+
 ghost use Rattle.std.specs.Prelude.{◌≡◌};
 ghost use Rattle.origins.specs.Origins.{FileOfBytes};
 ghost use Rattle.findings.specs.WritesSoFar.{next_block, start_so_far, step_so_far};

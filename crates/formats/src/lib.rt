@@ -1,4 +1,6 @@
 // The two formats of a frame's pixels.
+#![tactic(auto)]
+
 ghost use Rattle.std.specs.Prelude.{◌≡◌};
 ghost use Rattle.formats.specs.Formats.{format_reply, format_of};
 

@@ -1,5 +1,7 @@
 // Frame events on the hub: a frame start, a pixel line or a frame end comes in at a port and leaves as a packet, is
 // dropped or is refused.
+#![tactic(auto)]
+
 ghost use Rattle.std.specs.Prelude.{◌≡◌};
 ghost use Rattle.frames.specs.Events.{event_refusal_number};
 

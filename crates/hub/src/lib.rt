@@ -1,4 +1,6 @@
 // The hub: its own address on the bus, its register file, and what each port keeps of frames.
+#![tactic(auto)]
+
 ghost use Rattle.std.specs.Prelude.{◌≡◌};
 ghost use Rattle.hub.specs.Hubs.{ArrayLengths, is_hub_address, hub_with, hub_at, creation_reply, creation_of};
 ghost use Rattle.hub.specs.Hubs.{hub_burst, hub_read, port_frames, with_port_frames};

@@ -1,1 +1,3 @@
 // No code: definitions and laws that several crates cite. specs/ has the definitions, proofs/ the laws.
+#![tactic(auto)]
+

@@ -1,5 +1,7 @@
 // The text of a trace: its register writes, as an installer would type them; and the hub that it asks for, which the
 // text does not name.
+#![tactic(auto)]
+
 ghost use Rattle.std.specs.Prelude.{◌≡◌, length};
 ghost use Rattle.laws.specs.Reply.{on_reply};
 ghost use Rattle.laws.specs.Buffers.{Writes};

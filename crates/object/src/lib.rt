@@ -1,4 +1,6 @@
 // The object that show and check print for other programs, one line of JSON, piece by piece; docs/SHOW.md describes it.
+#![tactic(auto)]
+
 use page::Pen;
 use registers::power_up::PowerUp;
 

@@ -1,6 +1,8 @@
 // May the blocks of a script be run in any order? Its register writes one after another: whether they are setup blocks
 // with no port ticked twice, after shared writes and before shared writes, so that demand 3 holds of them; and of each
 // write whether it breaks this, and why.
+#![tactic(auto)]
+
 ghost use Rattle.std.specs.Prelude.{◌≡◌};
 ghost use Rattle.ordering.specs.Orders.{phase_after, fits, ticks_after, order_step, first_order};
 ghost use Rattle.ordering.specs.Orders.{port_twice_now, before_selection_now};

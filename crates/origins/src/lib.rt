@@ -1,5 +1,7 @@
 // Where each register has its value from: the number of the last write that reached it. A script's register writes are
 // numbered by their line, a trace's by their record.
+#![tactic(auto)]
+
 ghost use Rattle.std.specs.Prelude.{◌≡◌, if◌then◌else◌};
 ghost use Rattle.laws.specs.Bits.{bit};
 ghost use Rattle.origins.specs.NumberedWrites.{numbered_burst};

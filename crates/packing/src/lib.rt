@@ -1,4 +1,6 @@
 // RAW10 and RAW12: the pixels of a line packed into the bytes of a payload.
+#![tactic(auto)]
+
 ghost use Rattle.std.specs.Prelude.{◌≡◌, length};
 ghost use Rattle.laws.specs.Buffers.{Writes};
 ghost use Rattle.packing.specs.Packing.{pack_answer_reply, pack_reply};

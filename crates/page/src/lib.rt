@@ -1,5 +1,7 @@
 // Standard output written piece by piece: numbers and words, in columns. What comes of a write is the system's to say,
 // so contracts promise nothing of it.
+#![tactic(auto)]
+
 ghost use Rattle.std.specs.Prelude.{◌≡◌, ◌+◌, ◌%◌, ◌^◌, true, false, length};
 
 use buffers::text::hex_digit;

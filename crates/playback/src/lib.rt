@@ -1,4 +1,6 @@
 // The player: plays the records in a window of a trace file on a hub, and puts a line for each into a buffer.
+#![tactic(auto)]
+
 ghost use Rattle.std.specs.Prelude.{◌≡◌};
 ghost use Rattle.playback.specs.Windows.{new_session, state_at, PlaysWindow};
 

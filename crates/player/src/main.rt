@@ -1,5 +1,7 @@
 // The program `player`: plays a trace file, and prints a line for each record and the counts. The front door runs it
 // for the commands play and run.
+#![tactic(auto)]
+
 mod run;
 
 use console::say::Command;

@@ -1,4 +1,6 @@
 // A set of ports as a mask of four bits: bit p is set where port p is in the set.
+#![tactic(auto)]
+
 ghost use Rattle.std.specs.Prelude.{◌≡◌, cond, ◌≤◌};
 ghost use Rattle.ports.specs.PortMasks.{mask_of_four, mask_of_port, several_ports};
 

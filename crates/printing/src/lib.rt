@@ -1,5 +1,7 @@
 // The lines that the player prints, put into a buffer from a place on as far as they have room; the answer is the
 // next free place.
+#![tactic(auto)]
+
 ghost use Rattle.buffers.specs.Putting.{Puts};
 ghost use Rattle.answers.specs.Answers.{answer_reply};
 ghost use Rattle.printing.specs.PrintedLines.{reply_text, printed_line, printed_counts};

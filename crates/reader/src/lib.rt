@@ -1,4 +1,6 @@
 // The packet at the start of some bytes: what its header says, and its payload as a part of those bytes.
+#![tactic(auto)]
+
 ghost use Rattle.std.specs.Prelude.{◌≡◌, ◌+◌, ◌*◌, ◌^◌, ◌≤◌, length};
 ghost use Rattle.reader.specs.Reader.{header_packet, checksum_matches, read_body, read_packet};
 ghost use Rattle.reader.specs.Reader.{payload_count, payload_read, packet_read_reply};

@@ -1,5 +1,7 @@
 // The lines of a script that are refused, in words. The refusal is the first one's; the others are named so that all
 // can be mended at once.
+#![tactic(auto)]
+
 ghost use Rattle.std.specs.Prelude.{◌≤◌};
 
 use console::input::Read;

@@ -1,4 +1,6 @@
 // The register file of the DS90UB964-Q1, by value: reset, write, burst and read, and the SCL times.
+#![tactic(auto)]
+
 ghost use Rattle.std.specs.Prelude.{◌≡◌, ◌<◌};
 ghost use Rattle.laws.specs.Tables.{tabulate};
 ghost use Rattle.registers.specs.RegisterMap.{reset_of};

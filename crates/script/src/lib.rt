@@ -1,4 +1,6 @@
 // Installers' scripts: the text that they type, turned into a trace.
+#![tactic(auto)]
+
 ghost use Rattle.std.specs.Prelude.{length};
 ghost use Rattle.laws.specs.Buffers.{Writes};
 ghost use Rattle.script.specs.Reading.{script_calls, trace_if_room, script_trace, trace_answer_reply};

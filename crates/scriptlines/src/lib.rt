@@ -1,6 +1,8 @@
 // An installer's script of any size, turned into the records of its trace turn by turn, with no input and no output: a
 // program reads bytes into a buffer, a turn takes the lines there, and the program does with their records what it
 // likes.
+#![tactic(auto)]
+
 ghost use Rattle.std.specs.Prelude.{◌≡◌};
 ghost use Rattle.scriptlines.specs.TakenLines.{line_refusal_number, refused_line, address_refusal};
 ghost use Rattle.scriptlines.specs.TakenLines.{done_of, lines_state_at, TakesLines};

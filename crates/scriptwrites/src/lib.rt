@@ -1,6 +1,8 @@
 // The register writes of an installer's script of any size, one a turn, each with the number of its line; with no input
 // and no output: a program reads bytes into a buffer, a turn takes the lines there up to and with the next call, and
 // the program does with its write what it likes.
+#![tactic(auto)]
+
 ghost use Rattle.std.specs.Prelude.{◌≡◌};
 ghost use Rattle.scriptwrites.specs.ScriptWrites.{write_in, MakesWriteTurn};
 

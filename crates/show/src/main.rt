@@ -1,5 +1,7 @@
 // The program `show`: what a script or a trace comes to, on a screen or as an object for other programs. The front door
 // runs it for the commands show and check.
+#![tactic(auto)]
+
 mod block;
 mod check_screen;
 mod facts;

@@ -1,5 +1,7 @@
 // A file of any size, read window by window: what the window holds, and how its bytes make way for the next ones. No
 // input and no output.
+#![tactic(auto)]
+
 ghost use Rattle.std.specs.Prelude.{◌≡◌, ◌≤◌, ◌+◌, ◌-◌, min, length, take, drop};
 ghost use Rattle.laws.specs.Buffers.{written};
 ghost use Rattle.streams.specs.Streams.{new_window, wants_bytes, file_ended, after_read, nothing_left};

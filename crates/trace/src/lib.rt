@@ -1,4 +1,6 @@
 // The records of a trace file: the one at the start of some bytes, its data, and how many bytes it takes.
+#![tactic(auto)]
+
 ghost use Rattle.std.specs.Prelude.{◌≡◌, ◌+◌, ◌*◌, get_or, drop};
 ghost use Rattle.trace.specs.Framing.{data_of};
 ghost use Rattle.trace.specs.Records.{hub_asked, question_record, kind_row, length_allowed, may_stand, kind_record};

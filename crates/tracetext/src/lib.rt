@@ -1,5 +1,7 @@
 // A trace of any size as its text, window by window, with no input and no output: a program reads bytes of the trace
 // into a buffer, and a turn puts the text of the records there into another.
+#![tactic(auto)]
+
 ghost use Rattle.std.specs.Prelude.{◌≡◌};
 ghost use Rattle.tracetext.specs.TextWindows.{text_refusal_number, refused_record, is_text_refusal};
 ghost use Rattle.tracetext.specs.TextWindows.{new_text_run, list_state_at, ListsWindow};

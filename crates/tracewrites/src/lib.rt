@@ -1,5 +1,7 @@
 // The register writes of a trace of any size, with the numbers of their records, with no input and no output: a program
 // reads bytes of the trace into a buffer, and a turn takes the next record that is there.
+#![tactic(auto)]
+
 ghost use Rattle.std.specs.Prelude.{◌≡◌};
 ghost use Rattle.tracewrites.specs.RecordTurns.{trace_refusal_number, is_trace_refusal, next_record_number};
 ghost use Rattle.tracewrites.specs.RecordTurns.{refused_number, new_trace_file, MakesRecordTurn};

@@ -1,4 +1,6 @@
 // I2C address translation: which devices hear a write to an address on the bus, and which device answers a read of it.
+#![tactic(auto)]
+
 ghost use Rattle.std.specs.Prelude.{◌≡◌, [], ◌∷◌, ◌++◌, ◌<◌, take};
 ghost use Rattle.translation.specs.Translation.{alias_matches, target_from, on_port, on_ports, receivers};
 ghost use Rattle.translation.specs.Translation.{addressee_of, devices_of, write_reply, who_hears_write};

@@ -1,5 +1,7 @@
 // A run through a trace file, turn by turn, with no input and no output: a program reads bytes into a buffer, a turn
 // plays the records there, and the program does with their text and with the session what it likes.
+#![tactic(auto)]
+
 ghost use Rattle.std.specs.Prelude.{◌≡◌};
 ghost use Rattle.turns.specs.Turns.{new_file_run, MakesTurn};
 

@@ -1,4 +1,6 @@
 // RAW10 and RAW12 read back: the pixels of a line unpacked from the bytes of a payload.
+#![tactic(auto)]
+
 ghost use Rattle.std.specs.Prelude.{◌≡◌, ◌*◌, ◌/◌, length};
 ghost use Rattle.laws.specs.Buffers.{Writes};
 ghost use Rattle.packing.specs.Raw.{group_pixels, group_bytes};

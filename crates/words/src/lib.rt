@@ -1,5 +1,7 @@
 // Words that the screens of show and check share: lines and records, ports, outputs with their channels, addresses, and
 // the names of findings. What comes of a write is the system's to say, so contracts have nothing to promise here.
+#![tactic(auto)]
+
 use crate::kinds::Kind;
 use endstate::lines::Lines;
 use formats::Format;
