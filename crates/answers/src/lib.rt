@@ -12,7 +12,7 @@ use translation::{ReadAnswer, WriteAnswer};
 mod refused;
 
 // The four bytes of a packet header.
-#[derive(Drop)]
+#[derive(Clone, Copy)]
 pub struct Header {
     pub data_identifier: u8,
     pub word_count_low: u8,
@@ -21,7 +21,7 @@ pub struct Header {
 }
 
 // The frame events.
-#[derive(Drop)]
+#[derive(Clone, Copy)]
 pub enum EventKind {
     Start,
     PixelLine,
@@ -29,7 +29,7 @@ pub enum EventKind {
 }
 
 // What a record was answered; a frame event with the header of its packet, where one was sent.
-#[derive(Drop)]
+#[derive(Clone, Copy)]
 pub enum RecordAnswer {
     NoRecord,
     Hub {

@@ -13,7 +13,7 @@ pub mod digit;
 mod scan;
 
 // What a line is.
-#[derive(Drop)]
+#[derive(Clone, Copy)]
 pub enum ScriptLine {
     OtherShape,
     Blank,

@@ -9,14 +9,14 @@ ghost use Rattle.calls.specs.PrivateContracts.{rest_at, value_and_rest_at};
 use crate::digit;
 
 // Where the reading of a line stands, or that the line has another shape.
-#[derive(Drop)]
+#[derive(Clone, Copy)]
 pub(crate) enum Scan {
     Failed,
     At(usize),
 }
 
 // A value, and where the reading stands after it.
-#[derive(Drop)]
+#[derive(Clone, Copy)]
 pub(crate) struct ValueScan {
     pub value: u8,
     pub next: Scan,

@@ -8,7 +8,7 @@ ghost use Rattle.crc.specs.Checksum.{crc_from, crc_of};
 ghost use Rattle.crc.specs.WideRegister.{shifts, Holds, after_word, after_window, after_words, StandFor, SumOfFirst};
 
 // Four words that stand for the bytes so far: the register after those bytes is the one after these words, from 0.
-#[derive(Drop)]
+#[derive(Clone, Copy)]
 struct Window {
     first: u64,
     second: u64,
@@ -17,14 +17,14 @@ struct Window {
 }
 
 // A window that stands for the bytes before `at`.
-#[derive(Drop)]
+#[derive(Clone, Copy)]
 struct Opened {
     window: Window,
     at: usize,
 }
 
 // The running checksum of the bytes before `at`.
-#[derive(Drop)]
+#[derive(Clone, Copy)]
 struct Progress {
     sum: u16,
     at: usize,

@@ -13,7 +13,7 @@ use packing::check::PixelCheck;
 use packing::{check, groups};
 
 // The bytes written, or why none were.
-#[derive(Drop)]
+#[derive(Clone, Copy)]
 pub enum LongAnswer {
     WidthNotAllowed,
     PixelTooLarge,

@@ -7,14 +7,14 @@ ghost use Rattle.csi2.specs.Writers.{short_answer_reply, short_reply};
 use crate::header;
 
 // The frame synchronization packets.
-#[derive(Drop)]
+#[derive(Clone, Copy)]
 pub enum FrameSync {
     FrameStart,
     FrameEnd,
 }
 
 // The bytes written, or why none were.
-#[derive(Drop)]
+#[derive(Clone, Copy)]
 pub enum ShortAnswer {
     NoRoom,
     Wrote(usize),

@@ -65,14 +65,14 @@ pub fn check_byte(word: u32) -> u8
 }
 
 // Which of a header's 32 bits was wrong: 0 is the lowest of the identifier, 31 the highest of the check byte.
-#[derive(Drop)]
+#[derive(Clone, Copy)]
 pub enum Corrected {
     Nothing,
     HeaderBit(u8),
 }
 
 // What a header is read as, its four bytes as one number, the identifier lowest.
-#[derive(Drop)]
+#[derive(Clone, Copy)]
 pub enum Correction {
     Uncorrectable,
     Header { header: u32, corrected: Corrected },

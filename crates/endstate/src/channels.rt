@@ -18,7 +18,7 @@ use origins::RegistersWithOrigins;
 use registers::{bits, map};
 
 // The lines that set a port's route, 0 for none.
-#[derive(Drop)]
+#[derive(Clone, Copy)]
 pub struct PortLines {
     pub forwarding: u64,
     pub raw10: u64,

@@ -1,7 +1,7 @@
 // A finding of ports that share something: how it is graded, the ports, and the lines that explain it.
 use crate::lines::Lines;
 
-#[derive(Drop)]
+#[derive(Clone, Copy)]
 pub enum Grade {
     NoFinding,
     Meant,
@@ -10,7 +10,7 @@ pub enum Grade {
 
 // Ports that share something: a mask, bit p is port p. Where there is no finding, there are no ports and no lines. (An
 // enum does not hold an array.)
-#[derive(Drop)]
+#[derive(Clone, Copy)]
 pub struct Clash {
     pub grade: Grade,
     pub ports: u8,

@@ -6,7 +6,7 @@ use crate::lines;
 use crate::lines::Lines;
 
 // The lines among some origins, and whether one of these is none.
-#[derive(Drop)]
+#[derive(Clone, Copy)]
 pub struct Gathered {
     pub lines: Lines,
     pub unset: bool,

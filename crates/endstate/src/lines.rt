@@ -4,7 +4,7 @@ ghost use Rattle.endstate.specs.RisingLines.{lesser_of, greater_of, with_line};
 ghost use Rattle.endstate.specs.LineRows.{lines_of, lines_row, placed_at, carried_on};
 
 // The lines, then zeros: 0 is no line. What stands behind the first zero is none of them.
-#[derive(Drop)]
+#[derive(Clone, Copy)]
 pub struct Lines {
     pub numbers: [u64; 12],
 }

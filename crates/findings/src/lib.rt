@@ -18,7 +18,7 @@ pub mod replaced;
 
 // After some writes: the registers with the numbers of their origins; the same with the blocks of their origins, which
 // are counted from 1; the block that the last write stands in, 0 before the first one; the order; and the extent.
-#[derive(Drop)]
+#[derive(Clone, Copy)]
 pub struct WritesSoFar {
     pub numbers: RegistersWithOrigins,
     pub blocks: RegistersWithOrigins,

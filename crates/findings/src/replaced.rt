@@ -7,7 +7,7 @@ ghost use Rattle.findings.specs.Replaced.{replaced_now};
 use crate::{WritesSoFar, by_effect};
 
 // Whether the finding is there; the number of the register's origin.
-#[derive(Drop)]
+#[derive(Clone, Copy)]
 pub enum Replacement {
     NotReplaced,
     From(u64),

@@ -4,14 +4,14 @@
 ghost use Rattle.std.specs.Prelude.{◌≡◌};
 ghost use Rattle.formats.specs.Formats.{format_reply, format_of};
 
-#[derive(Drop)]
+#[derive(Clone, Copy)]
 pub enum Format {
     Raw10,
     Raw12,
 }
 
 // The answer to a format given as a number of bits.
-#[derive(Drop)]
+#[derive(Clone, Copy)]
 pub enum FormatAnswer {
     Unknown,
     Known(Format),

@@ -14,7 +14,7 @@ pub mod start;
 mod sync;
 
 // Why an event is refused.
-#[derive(Drop)]
+#[derive(Clone, Copy)]
 pub enum EventRefusal {
     NoSuchPort,
     UnknownFormat,
@@ -27,7 +27,7 @@ pub enum EventRefusal {
 }
 
 // What becomes of an event: it is refused or dropped, or its packet, of so many bytes, leaves on a CSI output.
-#[derive(Drop)]
+#[derive(Clone, Copy)]
 pub enum EventAnswer {
     Refused(EventRefusal),
     Dropped,
@@ -35,7 +35,7 @@ pub enum EventAnswer {
 }
 
 // The answer, and the hub after the event.
-#[derive(Drop)]
+#[derive(Clone, Copy)]
 pub struct AfterEvent {
     pub answer: EventAnswer,
     pub hub: Hub,

@@ -6,7 +6,7 @@ use crate::Hub;
 use formats::Format;
 use registers::{bits, map};
 
-#[derive(Drop)]
+#[derive(Clone, Copy)]
 pub enum Route {
     NoSuchPort,
     Off,

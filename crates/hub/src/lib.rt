@@ -12,7 +12,7 @@ use registers::{PageAccess, RegisterFile, power_up};
 pub mod forwarding;
 
 // A port's last frame: none so far, or its format and number, and whether it is closed or open.
-#[derive(Drop)]
+#[derive(Clone, Copy)]
 pub enum LastFrame {
     NoFrame,
     Closed(Format, u16),
@@ -20,12 +20,12 @@ pub enum LastFrame {
 }
 
 // What a port keeps of frames.
-#[derive(Drop)]
+#[derive(Clone, Copy)]
 pub struct PortFrames {
     pub last: LastFrame,
 }
 
-#[derive(Drop)]
+#[derive(Clone, Copy)]
 pub struct Hub {
     pub address: u8,
     pub registers: RegisterFile,
@@ -33,7 +33,7 @@ pub struct Hub {
 }
 
 // Whether the address may be a hub's own.
-#[derive(Drop)]
+#[derive(Clone, Copy)]
 pub enum CreationAnswer {
     AddressOutOfRange,
     Created,
@@ -41,7 +41,7 @@ pub enum CreationAnswer {
 
 // The answer, and beside it the hub, which is one to use only where the answer is Created. (An enum does not hold an
 // array.)
-#[derive(Drop)]
+#[derive(Clone, Copy)]
 pub struct Creation {
     pub answer: CreationAnswer,
     pub hub: Hub,

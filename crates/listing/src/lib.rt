@@ -17,7 +17,7 @@ mod record;
 mod text;
 
 // How many calls the text has, or why there is no text.
-#[derive(Drop)]
+#[derive(Clone, Copy)]
 pub(crate) enum CountAnswer {
     NoRecord,
     AddressOutOfRange,
@@ -26,7 +26,7 @@ pub(crate) enum CountAnswer {
 }
 
 // How many bytes were put, or why there is no text.
-#[derive(Drop)]
+#[derive(Clone, Copy)]
 pub enum ListingAnswer {
     NoRecord,
     AddressOutOfRange,
@@ -36,7 +36,7 @@ pub enum ListingAnswer {
 }
 
 // The hub that a trace asks for, or why there is none.
-#[derive(Drop)]
+#[derive(Clone, Copy)]
 pub enum HubAnswer {
     NoRecord,
     AddressOutOfRange,

@@ -8,7 +8,7 @@ use crate::kinds::WriteKind;
 use std::num::wrapping_add_u64;
 
 // The writes so far: how many, whether there was a selection, and how many up to the last selection or per-port write.
-#[derive(Drop)]
+#[derive(Clone, Copy)]
 pub struct Extent {
     pub count: u64,
     pub started: bool,

@@ -4,7 +4,7 @@ ghost use Rattle.ordering.specs.Kinds.{kind_of};
 
 use registers::map;
 
-#[derive(Drop)]
+#[derive(Clone, Copy)]
 pub enum WriteKind {
     // No bit of the register is writable: the model does not follow the write.
     NotFollowed,

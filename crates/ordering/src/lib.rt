@@ -17,7 +17,7 @@ pub mod ticks;
 
 // Where in the script: before the first selection; in a block; or after a shared write that follows a block, which is
 // inside if a selection or a per-port write comes yet.
-#[derive(Drop)]
+#[derive(Clone, Copy)]
 pub enum Phase {
     BeforeBlocks,
     InBlock,
@@ -25,7 +25,7 @@ pub enum Phase {
 }
 
 // The script so far: whether its blocks may be run in any order, and which selection ticked each port last.
-#[derive(Drop)]
+#[derive(Clone, Copy)]
 pub struct Order {
     pub any_order: bool,
     pub phase: Phase,

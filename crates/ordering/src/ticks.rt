@@ -5,18 +5,18 @@ ghost use Rattle.ordering.specs.Ticks.{no_ticks, last_tick, with_tick, with_tick
 use registers::bits;
 
 // The last selection that ticked a port: there was none, or its number.
-#[derive(Drop)]
+#[derive(Clone, Copy)]
 pub enum LastTick {
     Never,
     At(u64),
 }
 
-#[derive(Drop)]
+#[derive(Clone, Copy)]
 pub struct PortTick {
     pub last: LastTick,
 }
 
-#[derive(Drop)]
+#[derive(Clone, Copy)]
 pub struct Ticks {
     pub ports: [PortTick; 4],
 }

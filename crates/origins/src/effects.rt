@@ -9,7 +9,7 @@ ghost use Rattle.origins.specs.Effects.{differs, ignores_bits, ports_effect, sha
 use registers::{PageAccess, RegisterFile, bits, map};
 
 // What a write did. Sets of ports are masks: bit p is port p. `bits_ignored`: the value has bits that are not writable.
-#[derive(Drop)]
+#[derive(Clone, Copy)]
 pub enum Effect {
     // Nothing: no bit of the register is writable, the model does not follow it.
     NotFollowed,

@@ -15,7 +15,7 @@ pub mod effects;
 
 // The origins of the registers at an offset: the shared one's and each port's. 0 is none, the start value stands: lines
 // and records are counted from 1.
-#[derive(Drop)]
+#[derive(Clone, Copy)]
 pub struct OffsetOrigins {
     pub shared: u64,
     pub port_0: u64,
@@ -25,7 +25,7 @@ pub struct OffsetOrigins {
 }
 
 // The registers, and for each offset where they have their values from.
-#[derive(Drop)]
+#[derive(Clone, Copy)]
 pub struct RegistersWithOrigins {
     pub registers: RegisterFile,
     pub origins: [OffsetOrigins; 256],

@@ -7,7 +7,7 @@ ghost use Rattle.packing.specs.Checking.{or_all};
 use formats::Format;
 
 // Whether the width is allowed and every pixel fits.
-#[derive(Drop)]
+#[derive(Clone, Copy)]
 pub enum PixelCheck {
     WidthNotAllowed,
     PixelTooLarge,

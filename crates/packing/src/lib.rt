@@ -13,7 +13,7 @@ pub mod check;
 pub mod groups;
 
 // The bytes packed, or why none were.
-#[derive(Drop)]
+#[derive(Clone, Copy)]
 pub enum PackAnswer {
     WidthNotAllowed,
     PixelTooLarge,

@@ -13,7 +13,7 @@ mod window;
 
 // The player between two records: the hub, how many records there were, how many were refused, and whether the run has
 // ended.
-#[derive(Drop)]
+#[derive(Clone, Copy)]
 pub struct Session {
     pub hub: Hub,
     pub records: u64,
@@ -22,7 +22,7 @@ pub struct Session {
 }
 
 // What came of a window: the session, how many bytes of the window were played, and the next free place for text.
-#[derive(Drop)]
+#[derive(Clone, Copy)]
 pub struct WindowPlayed {
     pub session: Session,
     pub used: usize,

@@ -12,7 +12,7 @@ use registers::power_up::PowerUp;
 use trace::{FoundRecord, Record};
 
 // The hub after a record, what the record was answered, and whether it ends the run.
-#[derive(Drop)]
+#[derive(Clone, Copy)]
 pub(crate) struct RecordPlayed {
     pub hub: Hub,
     pub answer: RecordAnswer,

@@ -9,7 +9,7 @@ use csi2::short;
 use ecc::{Corrected, Correction};
 
 // The header of a packet that is accepted, or why it is not. The word count of a short packet is its frame number.
-#[derive(Drop)]
+#[derive(Clone, Copy)]
 pub enum PacketRead {
     Truncated,
     HeaderUncorrectable,

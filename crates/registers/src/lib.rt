@@ -16,7 +16,7 @@ pub mod scl;
 // The shared registers, and four pages of 256 registers, one page a port: register o of port p is pages[256 * p + o].
 // The entries of `shared` at per-port offsets and those of `pages` at shared ones keep their reset value: nothing reads
 // or writes them.
-#[derive(Drop)]
+#[derive(Clone, Copy)]
 pub struct RegisterFile {
     pub shared: [u8; 256],
     pub pages: [u8; 1024],
@@ -24,7 +24,7 @@ pub struct RegisterFile {
 
 // How the per-port registers are reached: by FPD3_PORT_SEL, which selects the ports to be written and the one to be
 // read, or directly on the page of one port.
-#[derive(Drop)]
+#[derive(Clone, Copy)]
 pub enum PageAccess {
     Selection,
     Port(u8),

@@ -5,7 +5,7 @@ ghost use Rattle.registers.specs.PowerUps.{boot_file, power_up_file};
 use crate::{RegisterFile, map};
 
 // As the board's boot code leaves the chip, or at the data sheet's reset.
-#[derive(Drop)]
+#[derive(Clone, Copy)]
 pub enum PowerUp {
     Boot,
     Reset,

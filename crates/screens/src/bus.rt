@@ -13,7 +13,7 @@ const LINES_COLUMN: u64 = 33;
 
 // Addresses that a device heard until a write gave its alias another: for each the write that had set the alias and
 // that other one, 0 for none; and 1 where that one replaced it, which looks wrong, else 0.
-#[derive(Drop)]
+#[derive(Clone, Copy)]
 pub struct Lost {
     pub set: [u64; 128],
     pub changed: [u64; 128],

@@ -5,7 +5,7 @@ use std::num::wrapping_add_u64;
 
 // How many register writes there were; of how many the register is not followed; how many went to a per-port register
 // while no port was selected; and how many selected ports.
-#[derive(Drop)]
+#[derive(Clone, Copy)]
 pub struct WriteCounts {
     pub writes: u64,
     pub not_followed: u64,

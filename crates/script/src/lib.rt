@@ -13,7 +13,7 @@ pub mod records;
 pub mod text;
 
 // The length of the trace, or why there is none; `line` is the number of the script's line that is refused.
-#[derive(Drop)]
+#[derive(Clone, Copy)]
 pub enum TraceAnswer {
     AddressOutOfRange,
     ScriptLineTooLong { line: usize },

@@ -11,7 +11,7 @@ use calls::ScriptLine;
 const LONGEST_LINE: usize = 200;
 
 // The next line of a text: over 200 bytes, of another shape, or taken, with its length.
-#[derive(Drop)]
+#[derive(Clone, Copy)]
 pub enum NextScriptLine {
     TooLong,
     OtherShape,
@@ -19,7 +19,7 @@ pub enum NextScriptLine {
 }
 
 // The lines of a text: how many calls stand in them, or the number of the first line that is refused.
-#[derive(Drop)]
+#[derive(Clone, Copy)]
 pub(crate) enum TextRead {
     TooLong { line: usize },
     OtherShape { line: usize },

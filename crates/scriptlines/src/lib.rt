@@ -14,7 +14,7 @@ use streams::Window;
 mod line;
 
 // Why a line is refused, if it is.
-#[derive(Drop)]
+#[derive(Clone, Copy)]
 pub enum LineRefusal {
     NoRefusal,
     TooLong,
@@ -22,7 +22,7 @@ pub enum LineRefusal {
 }
 
 // How far a script is read: how many lines were taken, and whether the next one was refused.
-#[derive(Drop)]
+#[derive(Clone, Copy)]
 pub struct ScriptRun {
     pub lines: u64,
     pub refusal: LineRefusal,
@@ -30,7 +30,7 @@ pub struct ScriptRun {
 
 // What came of a window: how far the script is read, how many bytes of the window were used, and the next free place
 // for records.
-#[derive(Drop)]
+#[derive(Clone, Copy)]
 pub struct LinesTaken {
     pub run: ScriptRun,
     pub used: usize,
@@ -38,7 +38,7 @@ pub struct LinesTaken {
 }
 
 // A script between two turns: how far it is read, and what the buffer holds at its start of the file.
-#[derive(Drop)]
+#[derive(Clone, Copy)]
 pub struct ScriptFile {
     pub run: ScriptRun,
     pub window: Window,
@@ -46,7 +46,7 @@ pub struct ScriptFile {
 
 // What a turn gives: the script after it, the end of the records in the lent buffer, and whether nothing is left to
 // take.
-#[derive(Drop)]
+#[derive(Clone, Copy)]
 pub struct ScriptTurn {
     pub file: ScriptFile,
     pub end: usize,

@@ -10,7 +10,7 @@ use script::records::WRITE_RECORD;
 use scriptlines::ScriptFile;
 
 // What a turn came to: no call was found, or one, with the number of its line (from 1), its offset and its value.
-#[derive(Drop)]
+#[derive(Clone, Copy)]
 pub enum NextWrite {
     NoWrite,
     Write { number: u64, offset: u8, value: u8 },
@@ -18,7 +18,7 @@ pub enum NextWrite {
 
 // What a turn gives: the script after it, the write, and whether nothing is left to take (the last turn may give a
 // write too).
-#[derive(Drop)]
+#[derive(Clone, Copy)]
 pub struct WriteTurn {
     pub file: ScriptFile,
     pub write: NextWrite,

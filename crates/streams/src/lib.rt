@@ -7,7 +7,7 @@ ghost use Rattle.laws.specs.Buffers.{written};
 ghost use Rattle.streams.specs.Streams.{new_window, wants_bytes, file_ended, after_read, nothing_left};
 
 // So many bytes at the start of a buffer were read and not used; `last` where the file ends with them.
-#[derive(Drop)]
+#[derive(Clone, Copy)]
 pub struct Window {
     pub held: usize,
     pub last: bool,

@@ -4,7 +4,7 @@ ghost use Rattle.trace.specs.Framing.{has_mark, kind_byte, record_length, holds_
 ghost use Rattle.trace.specs.PrivateContracts.{FramedAs};
 
 // Where the data of a record starts, and how many bytes it has.
-#[derive(Drop)]
+#[derive(Clone, Copy)]
 pub(crate) struct Framing {
     pub start: usize,
     pub count: usize,

@@ -13,7 +13,7 @@ use registers::power_up::PowerUp;
 mod framing;
 
 // What a record asks of the hub. The values of a write are by a question of their own.
-#[derive(Drop)]
+#[derive(Clone, Copy)]
 pub enum Record {
     Hub { address: u8, start: PowerUp },
     Write { offset: u8 },
@@ -26,14 +26,14 @@ pub enum Record {
 }
 
 // What stands at the start of some bytes: a record, or none that the format has.
-#[derive(Drop)]
+#[derive(Clone, Copy)]
 pub enum FoundRecord {
     NoRecord,
     Found(Record),
 }
 
 // How many bytes of data a kind has: the least and the most.
-#[derive(Drop)]
+#[derive(Clone, Copy)]
 pub(crate) struct DataLengths {
     pub least: usize,
     pub most: usize,

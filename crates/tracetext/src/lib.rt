@@ -13,7 +13,7 @@ use streams::Window;
 mod record;
 
 // Why a trace has no text, if it has none.
-#[derive(Drop)]
+#[derive(Clone, Copy)]
 pub enum TextRefusal {
     NoRefusal,
     NoRecord,
@@ -22,14 +22,14 @@ pub enum TextRefusal {
 }
 
 // Between two records: how many were passed, and why the next one has no text, if it is refused.
-#[derive(Drop)]
+#[derive(Clone, Copy)]
 pub struct TextRun {
     pub records: u64,
     pub refusal: TextRefusal,
 }
 
 // What came of a window: the run after it, how many bytes of the window were passed, and the next free place for text.
-#[derive(Drop)]
+#[derive(Clone, Copy)]
 pub struct TextListed {
     pub run: TextRun,
     pub used: usize,
@@ -37,7 +37,7 @@ pub struct TextListed {
 }
 
 // Between two turns: the run, and what the buffer holds at its start of the trace.
-#[derive(Drop)]
+#[derive(Clone, Copy)]
 pub struct TextFile {
     pub run: TextRun,
     pub window: Window,
@@ -45,7 +45,7 @@ pub struct TextFile {
 
 // What a turn gives: where the trace stands after it, the end of the text in the lent buffer, and whether nothing is
 // left to do.
-#[derive(Drop)]
+#[derive(Clone, Copy)]
 pub struct TextTurn {
     pub file: TextFile,
     pub end: usize,

@@ -12,7 +12,7 @@ use streams::Window;
 mod record;
 
 // Why a trace is refused, if it is.
-#[derive(Drop)]
+#[derive(Clone, Copy)]
 pub enum TraceRefusal {
     NoRefusal,
     MalformedRecord,
@@ -22,7 +22,7 @@ pub enum TraceRefusal {
 
 // What a turn found: no record; the hub's own address and how it starts; a write with the number of its record, the
 // offset of its first value and how many values it has; or a record that writes nothing.
-#[derive(Drop)]
+#[derive(Clone, Copy)]
 pub enum NextRecord {
     NoRecord,
     Hub {
@@ -39,7 +39,7 @@ pub enum NextRecord {
 
 // Between two turns: how many records were passed, why the trace is refused, if it is, and what the buffer holds at its
 // start of the trace.
-#[derive(Drop)]
+#[derive(Clone, Copy)]
 pub struct TraceFile {
     pub records: u64,
     pub refusal: TraceRefusal,
@@ -47,7 +47,7 @@ pub struct TraceFile {
 }
 
 // What a turn gives: where the trace stands after it, the record that it took, and whether nothing is left to do.
-#[derive(Drop)]
+#[derive(Clone, Copy)]
 pub struct RecordTurn {
     pub file: TraceFile,
     pub next: NextRecord,
@@ -56,7 +56,7 @@ pub struct RecordTurn {
 
 // What came of the bytes of a window: the records passed and the refusal after it, the record that was taken, and how
 // many bytes it has.
-#[derive(Drop)]
+#[derive(Clone, Copy)]
 pub(crate) struct RecordTaken {
     pub records: u64,
     pub refusal: TraceRefusal,

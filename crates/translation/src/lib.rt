@@ -12,28 +12,28 @@ use hub::Hub;
 use registers::{bits, map};
 
 // A device behind a port, with its address on the remote bus: whether it is a serializer or a target, with its number.
-#[derive(Drop)]
+#[derive(Clone, Copy)]
 pub enum Remote {
     Serializer { address: u8 },
     Target { number: u8, address: u8 },
 }
 
 // A device and its port.
-#[derive(Drop)]
+#[derive(Clone, Copy)]
 pub struct PortDevice {
     pub port: u8,
     pub remote: Remote,
 }
 
 // The port's device for an address, if the port matches.
-#[derive(Drop)]
+#[derive(Clone, Copy)]
 pub enum PortAnswer {
     NoMatch,
     Device(PortDevice),
 }
 
 // The devices that a write reaches, ports rising: at most one a port.
-#[derive(Drop)]
+#[derive(Clone, Copy)]
 pub enum Devices {
     One(PortDevice),
     Two(PortDevice, PortDevice),
@@ -42,7 +42,7 @@ pub enum Devices {
 }
 
 // Who hears a write.
-#[derive(Drop)]
+#[derive(Clone, Copy)]
 pub enum WriteAnswer {
     AddressAbove7F,
     Hub,
@@ -51,7 +51,7 @@ pub enum WriteAnswer {
 }
 
 // Who answers a read.
-#[derive(Drop)]
+#[derive(Clone, Copy)]
 pub enum ReadAnswer {
     AddressAbove7F,
     Unclear,
@@ -61,7 +61,7 @@ pub enum ReadAnswer {
 }
 
 // Whom an address may be for: nobody, because it has more than 7 bits; the hub; or devices behind the ports.
-#[derive(Drop)]
+#[derive(Clone, Copy)]
 enum Addressee {
     OutOfRange,
     TheHub,
@@ -69,7 +69,7 @@ enum Addressee {
 }
 
 // The devices of the ports that match.
-#[derive(Drop)]
+#[derive(Clone, Copy)]
 enum Receivers {
     NoDevice,
     Devices(Devices),

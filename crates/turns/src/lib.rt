@@ -9,14 +9,14 @@ use playback::Session;
 use streams::Window;
 
 // The run between two turns: the session, and what the buffer holds at its start of the file.
-#[derive(Drop)]
+#[derive(Clone, Copy)]
 pub struct FileRun {
     pub session: Session,
     pub window: Window,
 }
 
 // What a turn gives: the run after it, the end of the text in the lent buffer, and whether nothing is left to play.
-#[derive(Drop)]
+#[derive(Clone, Copy)]
 pub struct TurnEnd {
     pub run: FileRun,
     pub end: usize,

@@ -11,7 +11,7 @@ use formats::{Format, FormatAnswer};
 mod groups;
 
 // The pixels unpacked, or why none were.
-#[derive(Drop)]
+#[derive(Clone, Copy)]
 pub enum UnpackAnswer {
     UnknownFormat,
     PayloadNotAllowed,

@@ -1,7 +1,7 @@
 // The kinds of findings, by name.
 use page::Pen;
 
-#[derive(Drop)]
+#[derive(Clone, Copy)]
 pub enum Kind {
     Replaced,
     SameChannel,
