@@ -16,7 +16,7 @@ fn main() {
     println!("cargo::rerun-if-changed={}", archive.display());
     if !archive.is_file() {
         println!(
-            "cargo::error={} is missing: run 'rt staticlib exports' in the repository, or name the \
+            "cargo::error={} is missing: run 'tools/build staticlib/libexports.a' in the repository, or name the \
              library's folder in LOOPCINDER_STATICLIB",
             archive.display()
         );
