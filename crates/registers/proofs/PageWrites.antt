@@ -141,7 +141,7 @@ pages_written access file count [] h =
 pages_written access file count (write ∷ writes) h =
     let written = writes_port access (selection file) in
     let k = ports_changed_lem write (per_port_small write.offset h.0) access file count 4 in
-    let both = changed_then k (pages_written access _ k.page_count writes h.1) in
+    let both = changed_then k (pages_written access (write_ports 4 access file write.offset write.value) k.page_count writes h.1) in
     rw (write_paged access file write.offset write.value h.0)
     (record {
       shared = both.shared;

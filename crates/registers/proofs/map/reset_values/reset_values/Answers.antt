@@ -1,14 +1,9 @@
 -- `registers::map::reset_values::reset_values` meets its contract: the whole table is computed and compared.
--- Assumes nothing.
 use mathlib.Core.Path.{refl}
 use Rattle.laws.specs.Tables.{tabulate, tabulate_from}
 use Rattle.registers.specs.RegisterMap.{rows, row_in, reset_of}
-use Rattle.registers.proofs.map.reset_values.reset_values.Statement.{statement}
-use Rattle.registers.proofs.map.reset_values.reset_values.Tie as tie
+use Rattle.registers.proofs.map.reset_values.reset_values.Goals as goal
 
-returns : tie.Need-returns
+pub returns : goal.returns
 unfolding tabulate tabulate_from reset_of row_in rows
 returns c = refl
-
-pub reset-values-spec : {M : Type 1} → statement M
-reset-values-spec = tie.close (tie.spec returns)
