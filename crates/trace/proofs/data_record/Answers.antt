@@ -1,0 +1,36 @@
+-- `trace::data_record` meets its contract, row by row.
+use Rattle.trace.specs.Records.{kind_row_in, kind_rows}
+use Rattle.trace.proofs.KindLaws.{no_row}
+use Rattle.trace.proofs.data_record.Goals as goal
+
+pub returns-in-0 : goal.returns-in-0
+unfolding kind_row_in kind_rows
+returns-in-0 c = rw c.in-0.is c.hub.ensures
+
+pub returns-in-1 : goal.returns-in-1
+unfolding kind_row_in kind_rows
+returns-in-1 c = rw (c.in-1.is, c.byte_at-first.ensures)
+
+pub returns-in-2 : goal.returns-in-2
+unfolding kind_row_in kind_rows
+returns-in-2 c = rw (c.in-2.is, c.byte_at-first.ensures)
+
+pub returns-in-3 : goal.returns-in-3
+unfolding kind_row_in kind_rows
+returns-in-3 c = rw c.in-3.is c.question.ensures
+
+pub returns-in-16 : goal.returns-in-16
+unfolding kind_row_in kind_rows
+returns-in-16 c = rw (c.in-16.is, c.byte_at-first.ensures, c.byte_at-second.ensures)
+
+pub returns-in-17 : goal.returns-in-17
+unfolding kind_row_in kind_rows
+returns-in-17 c = rw (c.in-17.is, c.byte_at-first.ensures)
+
+pub returns-in-18 : goal.returns-in-18
+unfolding kind_row_in kind_rows
+returns-in-18 c = rw (c.in-18.is, c.byte_at-first.ensures, c.number.ensures, c.number-in-18.ensures)
+
+pub returns-in_default : goal.returns-in_default
+unfolding kind_row_in kind_rows
+returns-in_default c = rw (no_row kind_rows c.args.kind c.in_default.in_default-own.rest).1
