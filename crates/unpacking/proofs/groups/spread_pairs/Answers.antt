@@ -1,5 +1,4 @@
 -- `unpacking::groups::spread_pairs` meets its contract, by one test that is computed for every byte.
--- Assumes nothing.
 use mathlib.Core.Bool.{Bool, ◌&&◌}
 use Prim.Native.Nat.{ℕ, ◌*◌, ◌^◌}
 use native.Mathlib.Omega.{arith}
@@ -9,24 +8,16 @@ use lib.Dec.{eqb, ltb}
 use Rattle.laws.proofs.Bools.{both}
 use Rattle.laws.proofs.Tables.{all_below, true_below}
 use Rattle.unpacking.specs.Words.{spread_pairs}
-use borrow.Author.Rules.{rules}
-use Rattle.unpacking.proofs.groups.spread_pairs.Statement.{statement}
-use Rattle.unpacking.proofs.groups.spread_pairs.Tie as tie
-
-mul-result : tie.Need-overflow-mul-result
-mul-result c = search rules
+use Rattle.unpacking.proofs.groups.spread_pairs.Goals as goal
 
 -- the rule at one byte
 right : ℕ → Bool
 right low = let spread = bit_and (low * 0x40010004001) 0x3000300030003 in eqb spread (spread_pairs low) && ltb spread (2 ^ 50)
 
-returns : tie.Need-returns
+pub returns : goal.returns
 unfolding all_below right spread_pairs
 returns c =
     let low = c.args.low in
     let spread = bit_and (low * 0x40010004001) 0x3000300030003 in
     let holds = both (eqb spread (spread_pairs low)) (ltb spread (2 ^ 50)) (true_below right 256 tt low (omega arith)) in
     (eqb-true spread (spread_pairs low) holds.0, ltb-true spread (2 ^ 50) holds.1)
-
-pub spread-pairs-spec : {M : Type 1} → statement M
-spread-pairs-spec = tie.close (tie.spec mul-result returns)
