@@ -1,6 +1,6 @@
 -- Where writes are counted from 1, the number kept for a register tells whether a write reached it, and which was last.
 -- Assumes nothing.
-use Rattle.std.proofs.Common.{◌≡◌, ℕ, ◌≤◌, List, sym, refl, ap, ◌∙◌, arith}
+use Rattle.std.proofs.Common.{◌≡◌, ℕ, sym, refl, ap, ◌∙◌, arith}
 use mathlib.Core.Option.{Option, none, some}
 use Rattle.laws.proofs.Absurd.{zero_not_one}
 use Rattle.origins.specs.NumberedWrites.{NumberedWrite}

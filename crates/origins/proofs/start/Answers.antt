@@ -1,11 +1,9 @@
 -- `origins::start` meets its contract: no register has an origin, and an array's length and bytes are its type's.
--- Assumes nothing.
 use Rattle.std.proofs.Common.{ℕ, get_or, refl, w8, Fits, rules}
 use Rattle.origins.specs.KeptOrigins.{start_with}
-use Rattle.origins.proofs.start.Statement.{statement}
-use Rattle.origins.proofs.start.Tie as tie
+use Rattle.origins.proofs.start.Goals as goal
 
-returns : tie.Need-returns
+pub returns : goal.returns
 unfolding start_with
 returns c =
     let file = c.args.registers in
@@ -19,6 +17,3 @@ returns c =
         page_bytes = λ i. (pages i).fits;
       },
     )
-
-pub start_spec : {M : Type 1} → statement M
-start_spec = tie.close (tie.spec returns)
