@@ -57,6 +57,7 @@ AllBehind (answer ∷ answers) = Behind answer × AllBehind answers
 devices_behind : (answers : List PortAnswer) → AllBehind answers
     → (device : PortDevice) → Memᴰ device (receivers answers) → device.port < 4
 unfolding receivers
+devices_behind [] h device m = elim m [ ]
 devices_behind (NoMatch ∷ answers) h device m = devices_behind answers h.1 device m
 devices_behind (Device d ∷ answers) (one_device p, h) device (Memᴰ.head e) = rw e p
 devices_behind (Device d ∷ answers) h device (Memᴰ.tail m) = devices_behind answers h.1 device m
@@ -101,6 +102,7 @@ read_reaches_port hub address device =
 receiver_of : (answers : List PortAnswer) (device : PortDevice) → Memᴰ (Device device) answers
     → Memᴰ device (receivers answers)
 unfolding receivers
+receiver_of [] device m = elim m [ ]
 receiver_of (NoMatch ∷ answers) device (Memᴰ.head e) = zero_not_one (cc)
 receiver_of (NoMatch ∷ answers) device (Memᴰ.tail m) = receiver_of answers device m
 receiver_of (Device d ∷ answers) device (Memᴰ.head e) = let same : device ≡ d = cc in Memᴰ.head same
