@@ -36,6 +36,7 @@ both : (a b : Block) → IsSetupBlock a → IsSetupBlock b
     → (block : Block) → Memᴰ block (a ∷ b ∷ []) → IsSetupBlock block
 both a b ha hb block (Memᴰ.head e) = rw e ha
 both a b ha hb block (Memᴰ.tail (Memᴰ.head e)) = rw e hb
+both a b ha hb block (Memᴰ.tail (Memᴰ.tail m)) = elim m [ ]
 
 -- at most one of two blocks selects each port, by a computed test
 one_selects : Block → Block → ℕ → Bool

@@ -107,7 +107,7 @@ after_blocks_lem file shared_count page_count [] k =
     })
 after_blocks_lem file shared_count page_count (block ∷ blocks) k =
     let a = after_block file shared_count page_count block (k block (Memᴰ.head refl)) in
-    let r = after_blocks_lem _ a.shared_count a.page_count blocks (λ other m. k other (Memᴰ.tail m)) in
+    let r = after_blocks_lem (write_each Selection file (block_writes block)) a.shared_count a.page_count blocks (λ other m. k other (Memᴰ.tail m)) in
     rw (writes_append Selection file (block_writes block) (all_writes blocks))
     (record {
       selection = r.selection ∙ rw a.selection (selection_cons (selection file) block blocks);

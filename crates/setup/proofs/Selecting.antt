@@ -66,6 +66,7 @@ module _ (port : ℕ) where
 
 -- a member of the one list is a member of the other
 mem_back : {block : Block} {a b : List Block} → Permᴰ a b → Memᴰ block b → Memᴰ block a
+mem_back Permᴰ.nil m = elim m [ ]
 mem_back (Permᴰ.cons e d) (Memᴰ.head q) = Memᴰ.head (q ∙ sym e)
 mem_back (Permᴰ.cons e d) (Memᴰ.tail m) = Memᴰ.tail (mem_back d m)
 mem_back (Permᴰ.swap e f) (Memᴰ.head q) = Memᴰ.tail (Memᴰ.head (q ∙ sym f))
