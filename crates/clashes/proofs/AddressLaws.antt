@@ -58,6 +58,7 @@ behind_found port (device ∷ devices) e = go (eqb device.port port) refl e (beh
 behind_hit : (port : ℕ) (devices : List PortDevice) (device : PortDevice) → Memᴰ device devices
     → device.port ≡ port → any_behind port devices ≡ true
 unfolding any_behind
+behind_hit port [] device m e = elim m [ ]
 behind_hit port (first ∷ devices) device (Memᴰ.head q) e =
     let own : first.port ≡ port = ap (λ (d : PortDevice). d.port) (sym q) ∙ e in rw (eq-eqb first.port port own)
 behind_hit port (first ∷ devices) device (Memᴰ.tail m) e =
