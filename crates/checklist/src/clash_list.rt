@@ -12,7 +12,7 @@ use page::{Listed, Pen};
 use registers::bits;
 use words::kinds::Kind;
 
-#[derive(Drop)]
+#[derive(Clone, Copy)]
 pub enum Wanted {
     Wrong,
     Meant,

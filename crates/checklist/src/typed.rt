@@ -3,7 +3,7 @@ use page::{Pen, shown};
 use std::num::wrapping_add_u64;
 
 // The file that is told about: its descriptor, where in it to begin, and whether it is a trace.
-#[derive(Drop)]
+#[derive(Clone, Copy)]
 pub struct File {
     pub fd: i32,
     pub start: i64,
@@ -12,7 +12,7 @@ pub struct File {
 
 // How far the file is looked through: the number of the line that the next byte is of, whether some of the line was
 // written, the byte before where it was, and whether nothing is left to look for.
-#[derive(Drop)]
+#[derive(Clone, Copy)]
 struct Search {
     line: u64,
     begun: bool,

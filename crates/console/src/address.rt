@@ -1,12 +1,12 @@
 // The hub's own address as it is typed, and words where it is not one.
 use crate::say;
-use crate::say::Command;
+use crate::say::{Command, STDERR_FILENO};
 use crate::status::Status;
 use buffers::text::hex_digit;
-use libc::STDERR_FILENO;
+use std::io::Print;
 
 // Two hex digits, or something else.
-#[derive(Drop)]
+#[derive(Clone, Copy)]
 pub enum Address {
     NotTwoDigits,
     Given(u8),
@@ -60,9 +60,9 @@ fn say_seven_bits(address: u8) {
 }
 
 // Says that no hub has the address.
-pub fn refuse(command: Command, address: u8, number: u8) -> Status {
-    if !say::refusal(number as u64) {
-        say::failed(command, b"cannot write the output");
+pub fn refuse(rt: &impl Print, command: Command, address: u8, number: u8) -> Status {
+    if let Err(error) = say::refusal(rt, number as u64) {
+        say::failed(command, b"cannot write the output", error);
         return Status::Failed;
     }
     say::words(

@@ -1,9 +1,12 @@
 // What a program says: words on standard error, after the command that was typed; refusals on standard output.
-use crate::shown;
-use libc::{STDERR_FILENO, STDOUT_FILENO};
+use crate::{reason, shown};
+use std::io::{Error, Print, Result};
+
+// The descriptor of standard error.
+pub const STDERR_FILENO: i32 = 2;
 
 // The command that was typed.
-#[derive(Drop)]
+#[derive(Clone, Copy)]
 pub enum Command {
     Run,
     Trace,
@@ -56,32 +59,34 @@ pub fn numbered(command: Command, before: &[u8], number: u64, after: &[u8]) {
 }
 
 // What failed, and why, as the system says it.
-pub fn failed(command: Command, what: &[u8]) {
+pub fn failed(command: Command, what: &[u8], error: Error) {
     words(command, b"");
-    os::fail(what);
+    reason::say(what, error);
 }
 
 // What failed with a file, and why, as the system says it.
-pub fn file_failed(command: Command, what: &[u8], path: &[u8]) {
+pub fn file_failed(command: Command, what: &[u8], path: &[u8], error: Error) {
     words(command, what);
     shown::name(path);
-    os::fail(b"");
+    reason::say(b"", error);
 }
 
-// A refusal's number; answers whether it could be written.
-pub fn refusal(number: u64) -> bool {
-    if !io::write_all(STDOUT_FILENO, b"! ") {
-        return false;
-    }
-    io::print_decimal(STDOUT_FILENO, number);
-    io::write_all(STDOUT_FILENO, b"\n")
+// A refusal's number.
+pub fn refusal(rt: &impl Print, number: u64) -> Result<()> {
+    rt.write_all(b"! ")?;
+    decimal(rt, number)?;
+    rt.write_all(b"\n")
 }
 
 // A refusal's number after that of its line.
-pub fn refusal_at(line: u64, number: u64) -> bool {
-    io::print_decimal(STDOUT_FILENO, line);
-    if !io::write_all(STDOUT_FILENO, b" ") {
-        return false;
-    }
-    refusal(number)
+pub fn refusal_at(rt: &impl Print, line: u64, number: u64) -> Result<()> {
+    decimal(rt, line)?;
+    rt.write_all(b" ")?;
+    refusal(rt, number)
+}
+
+fn decimal(rt: &impl Print, number: u64) -> Result<()> {
+    let mut digits = [0u8; 20];
+    let count = io::decimal(number, &mut digits);
+    rt.write_all(&digits[..count])
 }

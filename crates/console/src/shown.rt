@@ -1,6 +1,6 @@
 // Bytes of files and their names as they are shown on standard error: what would not be seen, by its number.
+use crate::say::STDERR_FILENO;
 use buffers::text::lowercase_digit;
-use libc::STDERR_FILENO;
 
 fn number(byte: u8) {
     let shown = [

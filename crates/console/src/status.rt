@@ -4,7 +4,7 @@
 const STATUS_FILENO: i32 = 3;
 
 // Done; the input was refused; or the call was wrong or the surroundings failed.
-#[derive(Drop)]
+#[derive(Clone, Copy)]
 pub enum Status {
     Done,
     Refused,

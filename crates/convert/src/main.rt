@@ -7,13 +7,17 @@ mod to_start;
 mod to_text;
 mod to_trace;
 
-use console::say::Command;
+use console::arguments;
+use console::say::{Command, STDERR_FILENO};
 use console::status::Status;
-use libc::STDERR_FILENO;
 use registers::power_up::PowerUp;
+use std::fs::File;
+use std::io::Stdin;
+use std::random::RandomSource;
+use std::rt::{Env, Files};
 
 // How the hub starts, by a word for it: one of two, or another word.
-#[derive(Drop)]
+#[derive(Clone, Copy)]
 enum Start {
     OtherWord,
     Named(PowerUp),
@@ -39,39 +43,45 @@ fn say_use() -> Status {
 }
 
 // A script to a trace, with the start that is named after the command.
-fn trace(command: Command) -> Status {
+fn trace(rt: &(impl Files<File = File> + Env + Print), stdin: Stdin, command: Command) -> Status {
     let mut word = io::buffer();
-    let length = os::arg(2, &mut word);
+    let length = arguments::word_or_none(rt, 2, &mut word);
     match start_of(&word[..length]) {
         Start::OtherWord => say_use(),
-        Start::Named(start) => to_trace::run(command, start),
+        Start::Named(start) => to_trace::run(rt, stdin, command, start),
     }
 }
 
 // The program's work, by the command that was typed.
-fn convert(word: &[u8], words: usize) -> Status {
+fn convert(
+    rt: &(impl Files<File = File> + Env + Print + RandomSource),
+    stdin: Stdin,
+    word: &[u8],
+    words: usize,
+) -> Status {
     if words == 7 {
         if check::same(word, b"trace") {
-            return trace(Command::Trace);
+            return trace(rt, stdin, Command::Trace);
         }
         if check::same(word, b"run") {
-            return trace(Command::Run);
+            return trace(rt, stdin, Command::Run);
         }
     }
     if words == 3 {
         if check::same(word, b"text") {
-            return to_text::run(Command::Text);
+            return to_text::run(rt, stdin, Command::Text);
         }
         if check::same(word, b"start") {
-            return to_start::run(Command::Start);
+            return to_start::run(rt, stdin, Command::Start);
         }
     }
     say_use()
 }
 
-fn main() {
+fn main(rt: HostRuntime) {
     let mut word = io::buffer();
-    let length = os::arg(1, &mut word);
-    let status = convert(&word[..length], os::arg_count());
+    let length = arguments::word_or_none(&rt, 1, &mut word);
+    let words = arguments::count(&rt);
+    let status = convert(&rt, rt.stdin(), &word[..length], words);
     console::status::tell(status);
 }

@@ -1,16 +1,19 @@
 // The hub's address and start that a trace asks for: convert start TRACE. Only its first record is looked at.
 use buffers::text::hex_digit;
 use console::input::Read;
+use console::opened::Opened;
 use console::say::Command;
 use console::status::Status;
-use console::{input, say};
-use libc::STDOUT_FILENO;
+use console::{arguments, input, say};
 use registers::power_up::PowerUp;
+use std::fs::File;
+use std::io::{Result, Stdin};
+use std::rt::{Env, Files};
 use tracewrites::{NextRecord, TraceFile, TraceRefusal};
 
 // How far the trace is read: the trace, the record that came, whether nothing is left to do, and whether a file
 // failed.
-#[derive(Drop)]
+#[derive(Clone, Copy)]
 struct Progress {
     file: TraceFile,
     next: NextRecord,
@@ -33,13 +36,13 @@ fn is_hub(record: NextRecord) -> bool {
 // Reads, and takes the first record where the whole of it was read.
 fn take_turn(
     command: Command,
-    fd: i32,
+    from: &Opened,
     path: &[u8],
     file: TraceFile,
     buffer: &mut [u8],
     values: &mut [u8],
 ) -> Progress {
-    match input::read_on(command, fd, path, file.window, buffer) {
+    match input::read_on(command, from, path, file.window, buffer) {
         Read::Failed => Progress {
             file,
             next: NextRecord::NoRecord,
@@ -63,7 +66,7 @@ fn take_turn(
 // Goes on until the first record is there, or none. The turns are counted down, from a number that no file uses up.
 fn take_first(
     command: Command,
-    fd: i32,
+    from: &Opened,
     path: &[u8],
     buffer: &mut [u8],
     values: &mut [u8],
@@ -78,27 +81,34 @@ fn take_first(
     let mut turns = u64::MAX;
     while turns > 0 && !progress.over {
         let file = progress.file;
-        progress = take_turn(command, fd, path, file, buffer, values);
+        progress = take_turn(command, from, path, file, buffer, values);
         turns -= 1;
     }
     progress
 }
 
-fn start_word(start: PowerUp) -> bool {
+fn start_word(rt: &impl Print, start: PowerUp) -> Result<()> {
     match start {
-        PowerUp::Boot => io::write_all(STDOUT_FILENO, b" board\n"),
-        PowerUp::Reset => io::write_all(STDOUT_FILENO, b" sheet\n"),
+        PowerUp::Boot => rt.write_all(b" board\n"),
+        PowerUp::Reset => rt.write_all(b" sheet\n"),
     }
 }
 
-// The one line.
-fn print(command: Command, address: u8, start: PowerUp) -> Status {
+fn write_line(rt: &impl Print, address: u8, start: PowerUp) -> Result<()> {
     let digits = [hex_digit(address / 16), hex_digit(address)];
-    if io::write_all(STDOUT_FILENO, &digits) && start_word(start) {
-        return Status::Done;
+    rt.write_all(&digits)?;
+    start_word(rt, start)
+}
+
+// The one line.
+fn print(rt: &impl Print, command: Command, address: u8, start: PowerUp) -> Status {
+    match write_line(rt, address, start) {
+        Ok(()) => Status::Done,
+        Err(error) => {
+            say::failed(command, b"cannot write the output", error);
+            Status::Failed
+        }
     }
-    say::failed(command, b"cannot write the output");
-    Status::Failed
 }
 
 // Says in words why the trace has no start.
@@ -116,9 +126,9 @@ fn say_why(command: Command, refusal: TraceRefusal) {
     }
 }
 
-fn refuse(command: Command, refusal: TraceRefusal) -> Status {
-    if !say::refusal(tracewrites::refusal_number(refusal) as u64) {
-        say::failed(command, b"cannot write the output");
+fn refuse(rt: &impl Print, command: Command, refusal: TraceRefusal) -> Status {
+    if let Err(error) = say::refusal(rt, tracewrites::refusal_number(refusal) as u64) {
+        say::failed(command, b"cannot write the output", error);
         return Status::Failed;
     }
     say_why(command, refusal);
@@ -126,42 +136,55 @@ fn refuse(command: Command, refusal: TraceRefusal) -> Status {
 }
 
 // What the first record comes to.
-fn ending(command: Command, progress: Progress) -> Status {
+fn ending(rt: &impl Print, command: Command, progress: Progress) -> Status {
     if progress.failed {
         return Status::Failed;
     }
     let record = progress.next;
     match record {
-        NextRecord::Hub { address, start } => print(command, address, start),
+        NextRecord::Hub { address, start } => print(rt, command, address, start),
         _ => {
             let file = progress.file;
             let refusal = file.refusal;
-            refuse(command, refusal)
+            refuse(rt, command, refusal)
         }
     }
 }
 
-fn tell(command: Command, fd: i32, path: &[u8]) -> Status {
+fn tell(rt: &impl Print, command: Command, from: &Opened, path: &[u8]) -> Status {
     let mut buffer = io::large_buffer();
     let mut values = io::buffer();
     ending(
+        rt,
         command,
-        take_first(command, fd, path, &mut buffer, &mut values),
+        take_first(command, from, path, &mut buffer, &mut values),
     )
 }
 
-pub(crate) fn run(command: Command) -> Status {
+// Tells what the file with that name has.
+fn tell_named(
+    rt: &(impl Files<File = File> + Print),
+    stdin: Stdin,
+    command: Command,
+    path: &[u8],
+) -> Status {
+    match input::open(rt, stdin, command, path) {
+        Some(from) => tell(rt, command, &from, path),
+        None => Status::Failed,
+    }
+}
+
+pub(crate) fn run(
+    rt: &(impl Files<File = File> + Env + Print),
+    stdin: Stdin,
+    command: Command,
+) -> Status {
     let mut path = io::buffer();
-    let length = os::arg(2, &mut path);
-    if os::errno() != 0 {
-        say::failed(command, b"cannot open the trace");
-        return Status::Failed;
+    match arguments::word(rt, 2, &mut path) {
+        Ok(length) => tell_named(rt, stdin, command, &path[..length]),
+        Err(error) => {
+            say::failed(command, b"cannot open the trace", error);
+            Status::Failed
+        }
     }
-    let fd = input::open(command, &path[..length]);
-    if fd < 0 {
-        return Status::Failed;
-    }
-    let status = tell(command, fd, &path[..length]);
-    libc::close(fd);
-    status
 }

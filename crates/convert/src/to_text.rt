@@ -3,15 +3,20 @@ ghost use Rattle.std.specs.Prelude.{◌≤◌, length};
 ghost use Rattle.trace.specs.Framing.{longest_record};
 ghost use Rattle.listing.specs.Listing.{longest_text};
 
+use console::again::Again;
 use console::input::Read;
+use console::opened::Opened;
 use console::say::Command;
 use console::status::Status;
-use console::{input, say, spool};
-use libc::STDOUT_FILENO;
+use console::{again, arguments, input, say};
+use std::fs::File;
+use std::io::Stdin;
+use std::random::RandomSource;
+use std::rt::{Env, Files};
 use tracetext::{TextFile, TextRefusal, TextRun};
 
 // How far the trace is read: the trace, whether nothing is left to do, and whether a file failed.
-#[derive(Drop)]
+#[derive(Clone, Copy)]
 struct Progress {
     file: TextFile,
     over: bool,
@@ -19,27 +24,30 @@ struct Progress {
 }
 
 // Writes the first bytes of the text, or says that they cannot be written.
-fn write_text(command: Command, text: &[u8], end: usize) -> bool
+fn write_text(rt: &impl Print, command: Command, text: &[u8], end: usize) -> bool
     requires { end ≤ length text.now }
 {
-    if io::write_all(STDOUT_FILENO, &text[0..end]) {
-        return true;
+    match rt.write_all(&text[0..end]) {
+        Ok(()) => true,
+        Err(error) => {
+            say::failed(command, b"cannot write the text", error);
+            false
+        }
     }
-    say::failed(command, b"cannot write the text");
-    false
 }
 
 // Reads, and makes the text of the records that were read; writes it where it is to be printed.
 fn take_turn(
+    rt: &impl Print,
     command: Command,
-    fd: i32,
+    from: &Opened,
     path: &[u8],
     file: TextFile,
     print: bool,
     buffer: &mut [u8],
     text: &mut [u8],
 ) -> Progress {
-    match input::read_on(command, fd, path, file.window, buffer) {
+    match input::read_on(command, from, path, file.window, buffer) {
         Read::Failed => Progress {
             file,
             over: true,
@@ -50,7 +58,7 @@ fn take_turn(
             let after = turn.file;
             let mut written = true;
             if print {
-                written = write_text(command, text, turn.end);
+                written = write_text(rt, command, text, turn.end);
             }
             if written {
                 return Progress {
@@ -71,8 +79,9 @@ fn take_turn(
 // Goes through the trace. The turns are counted down, from a number that no file uses up (`TextHoweverCut` in
 // `tracetext` says how many a trace takes; the rest of what it asks is required here).
 fn take_all(
+    rt: &impl Print,
     command: Command,
-    fd: i32,
+    from: &Opened,
     path: &[u8],
     print: bool,
     buffer: &mut [u8],
@@ -90,7 +99,7 @@ fn take_all(
     let mut turns = u64::MAX;
     while turns > 0 && !progress.over {
         let file = progress.file;
-        progress = take_turn(command, fd, path, file, print, buffer, text);
+        progress = take_turn(rt, command, from, path, file, print, buffer, text);
         turns -= 1;
     }
     progress
@@ -122,9 +131,9 @@ fn say_why(command: Command, run: TextRun, refusal: TextRefusal) {
     }
 }
 
-fn refuse(command: Command, run: TextRun, refusal: TextRefusal) -> Status {
-    if !say::refusal(tracetext::refusal_number(refusal) as u64) {
-        say::failed(command, b"cannot write the output");
+fn refuse(rt: &impl Print, command: Command, run: TextRun, refusal: TextRefusal) -> Status {
+    if let Err(error) = say::refusal(rt, tracetext::refusal_number(refusal) as u64) {
+        say::failed(command, b"cannot write the output", error);
         return Status::Failed;
     }
     say_why(command, run, refusal);
@@ -132,7 +141,7 @@ fn refuse(command: Command, run: TextRun, refusal: TextRefusal) -> Status {
 }
 
 // Done where the whole trace was read and has a text; says why it has none.
-fn ending(command: Command, progress: Progress) -> Status {
+fn ending(rt: &impl Print, command: Command, progress: Progress) -> Status {
     if progress.failed || !progress.over {
         return Status::Failed;
     }
@@ -142,72 +151,78 @@ fn ending(command: Command, progress: Progress) -> Status {
     if tracetext::refusal_number(refusal) == 0 {
         return Status::Done;
     }
-    refuse(command, run, refusal)
+    refuse(rt, command, run, refusal)
 }
 
 // Reads the trace again from a place in the open file on, and prints its text.
 fn print(
+    rt: &impl Print,
     command: Command,
-    fd: i32,
+    from: &Again,
     path: &[u8],
-    start: i64,
     buffer: &mut [u8],
     text: &mut [u8],
 ) -> Status
     requires longest_record_in_bounds { longest_record ≤ length buffer.old }
     requires longest_text_in_bounds { longest_text ≤ length text.old }
 {
-    if libc::lseek(fd, start, libc::SEEK_SET) < 0 {
-        input::say_unread(command, path);
+    if let Err(error) = from.file.go_to(from.start) {
+        input::say_unread(command, path, error);
         return Status::Failed;
     }
-    let printed = take_all(command, fd, path, true, buffer, text);
-    ending(command, printed)
+    let printed = take_all(rt, command, &from.file, path, true, buffer, text);
+    ending(rt, command, printed)
 }
 
 // Prints the text of the trace, from a place in the open file on, or says why there is none.
-fn convert(command: Command, fd: i32, path: &[u8], start: i64) -> Status {
+fn convert(rt: &impl Print, command: Command, from: &Again, path: &[u8]) -> Status {
     let mut buffer = io::large_buffer();
     let mut text = io::large_buffer();
-    let seen = take_all(command, fd, path, false, &mut buffer, &mut text);
-    match ending(command, seen) {
-        Status::Done => print(command, fd, path, start, &mut buffer, &mut text),
+    let seen = take_all(rt, command, &from.file, path, false, &mut buffer, &mut text);
+    match ending(rt, command, seen) {
+        Status::Done => print(rt, command, from, path, &mut buffer, &mut text),
         Status::Refused => Status::Refused,
         Status::Failed => Status::Failed,
     }
 }
 
 // A file that cannot be read twice is copied first.
-fn convert_file(command: Command, fd: i32, path: &[u8]) -> Status {
-    let start = libc::lseek(fd, 0, libc::SEEK_CUR);
-    if 0 <= start {
-        return convert(command, fd, path, start);
+fn convert_file(
+    rt: &(impl Files<File = File> + Print + RandomSource),
+    command: Command,
+    file: Opened,
+    path: &[u8],
+) -> Status {
+    match again::make(rt, command, file, path) {
+        Some(from) => convert(rt, command, &from, path),
+        None => Status::Failed,
     }
-    if os::errno() != libc::ESPIPE {
-        input::say_unread(command, path);
-        return Status::Failed;
-    }
-    let copy = spool::copy(command, fd, path);
-    if copy < 0 {
-        return Status::Failed;
-    }
-    let status = convert(command, copy, path, 0);
-    libc::close(copy);
-    status
 }
 
-pub(crate) fn run(command: Command) -> Status {
+// Converts the file with that name.
+fn convert_named(
+    rt: &(impl Files<File = File> + Print + RandomSource),
+    stdin: Stdin,
+    command: Command,
+    path: &[u8],
+) -> Status {
+    match input::open(rt, stdin, command, path) {
+        Some(file) => convert_file(rt, command, file, path),
+        None => Status::Failed,
+    }
+}
+
+pub(crate) fn run(
+    rt: &(impl Files<File = File> + Env + Print + RandomSource),
+    stdin: Stdin,
+    command: Command,
+) -> Status {
     let mut path = io::buffer();
-    let length = os::arg(2, &mut path);
-    if os::errno() != 0 {
-        say::failed(command, b"cannot open the trace");
-        return Status::Failed;
+    match arguments::word(rt, 2, &mut path) {
+        Ok(length) => convert_named(rt, stdin, command, &path[..length]),
+        Err(error) => {
+            say::failed(command, b"cannot open the trace", error);
+            Status::Failed
+        }
     }
-    let fd = input::open(command, &path[..length]);
-    if fd < 0 {
-        return Status::Failed;
-    }
-    let status = convert_file(command, fd, &path[..length]);
-    libc::close(fd);
-    status
 }

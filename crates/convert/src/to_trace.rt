@@ -6,16 +6,20 @@ ghost use Rattle.scriptlines.specs.TakenLines.{record_room};
 use crate::part;
 use console::address::Address;
 use console::input::Read;
+use console::opened::Opened;
 use console::say::Command;
 use console::status::Status;
-use console::{address, input, say};
+use console::{address, arguments, input, say};
 use registers::power_up::PowerUp;
 use script::records::LONGEST_HUB_RECORD;
 use scriptlines::ScriptFile;
+use std::fs::File;
+use std::io::{Error, Stdin, Write};
+use std::rt::{Env, Files};
 
 // How far the script is converted: the script, whether it has a call so far, whether nothing is left to do, and whether
 // a file failed.
-#[derive(Drop)]
+#[derive(Clone, Copy)]
 struct Progress {
     file: ScriptFile,
     has_call: bool,
@@ -24,23 +28,26 @@ struct Progress {
 }
 
 // Writes the first bytes of the records, or says that they cannot be written.
-fn write_records(command: Command, fd: i32, out: &[u8], records: &[u8], end: usize) -> bool
+fn write_records(command: Command, to: &File, out: &[u8], records: &[u8], end: usize) -> bool
     requires { end ≤ length records.now }
 {
-    if io::write_all(fd, &records[0..end]) {
-        return true;
+    let mut to = to;
+    match to.write_all(&records[0..end]) {
+        Ok(()) => true,
+        Err(error) => {
+            part::say_unwritten(command, out, error);
+            false
+        }
     }
-    part::say_unwritten(command, out);
-    false
 }
 
 // Writes the hub record, or says that it cannot be written.
-fn write_hub(command: Command, fd: i32, out: &[u8], address: u8, start: PowerUp) -> bool {
+fn write_hub(command: Command, to: &File, out: &[u8], address: u8, start: PowerUp) -> bool {
     let mut record = [0u8; LONGEST_HUB_RECORD];
     script::records::put_hub(&mut record, 0, address, start);
     write_records(
         command,
-        fd,
+        to,
         out,
         &record,
         script::records::hub_length(start),
@@ -50,7 +57,7 @@ fn write_hub(command: Command, fd: i32, out: &[u8], address: u8, start: PowerUp)
 // Takes the lines that were read, and writes their records.
 fn take_lines(
     command: Command,
-    to: i32,
+    to: &File,
     out: &[u8],
     progress: Progress,
     got: usize,
@@ -70,9 +77,9 @@ fn take_lines(
 // Reads, and takes what was read.
 fn take_turn(
     command: Command,
-    from: i32,
+    from: &Opened,
     script: &[u8],
-    to: i32,
+    to: &File,
     out: &[u8],
     progress: Progress,
     buffer: &mut [u8],
@@ -95,9 +102,9 @@ fn take_turn(
 // the rest of what it asks is required here).
 fn take_all(
     command: Command,
-    from: i32,
+    from: &Opened,
     script: &[u8],
-    to: i32,
+    to: &File,
     out: &[u8],
     buffer: &mut [u8],
     records: &mut [u8],
@@ -122,8 +129,9 @@ fn take_all(
 
 // The script is refused: says so by its first refused line, and names all of them.
 fn refuse(
+    rt: &impl Print,
     command: Command,
-    from: i32,
+    from: &Opened,
     script: &[u8],
     file: ScriptFile,
     buffer: &mut [u8],
@@ -133,8 +141,8 @@ fn refuse(
     let refusal = run.refusal;
     let line = scriptlines::refused_line(run);
     let number = scriptlines::refusal_number(refusal);
-    if !say::refusal_at(line, number as u64) {
-        say::failed(command, b"cannot write the output");
+    if let Err(error) = say::refusal_at(rt, line, number as u64) {
+        say::failed(command, b"cannot write the output", error);
         return Status::Failed;
     }
     refusedlines::name_all(command, from, script, file, buffer, records);
@@ -156,8 +164,15 @@ fn ending(progress: Progress) -> Status {
 }
 
 // The trace is kept; says so where the script has no call.
-fn keep(command: Command, progress: Progress, to: i32, out: &[u8], name: &[u8]) -> Status {
-    let status = part::keep(command, to, out, name);
+fn keep(
+    rt: &impl Files<File = File>,
+    command: Command,
+    progress: Progress,
+    to: File,
+    out: &[u8],
+    name: &[u8],
+) -> Status {
+    let status = part::keep(rt, command, to, out, name);
     if !progress.has_call {
         say::words(command, b"note: the script has no register write\n");
     }
@@ -166,31 +181,33 @@ fn keep(command: Command, progress: Progress, to: i32, out: &[u8], name: &[u8]) 
 
 // Converts the script into the part; keeps it where the script was taken.
 fn convert(
+    rt: &(impl Files<File = File> + Print),
     command: Command,
     address: u8,
     start: PowerUp,
-    from: i32,
+    from: &Opened,
     script: &[u8],
-    to: i32,
+    to: File,
     out: &[u8],
     name: &[u8],
 ) -> Status {
-    if !write_hub(command, to, out, address, start) {
-        part::discard(to, name);
+    if !write_hub(command, &to, out, address, start) {
+        part::discard(rt, to, name);
         return Status::Failed;
     }
     let mut buffer = io::large_buffer();
     let mut records = io::large_buffer();
-    let progress = take_all(command, from, script, to, out, &mut buffer, &mut records);
+    let progress = take_all(command, from, script, &to, out, &mut buffer, &mut records);
     match ending(progress) {
-        Status::Done => keep(command, progress, to, out, name),
+        Status::Done => keep(rt, command, progress, to, out, name),
         Status::Failed => {
-            part::discard(to, name);
+            part::discard(rt, to, name);
             Status::Failed
         }
         Status::Refused => {
-            part::discard(to, name);
+            part::discard(rt, to, name);
             refuse(
+                rt,
                 command,
                 from,
                 script,
@@ -204,23 +221,25 @@ fn convert(
 
 // Converts the open script.
 fn convert_file(
+    rt: &(impl Files<File = File> + Print),
     command: Command,
     address: u8,
     start: PowerUp,
-    from: i32,
+    from: &Opened,
     script: &[u8],
     out: &[u8],
     name: &[u8],
 ) -> Status {
-    let to = part::begin(command, out, name);
-    if to < 0 {
-        return Status::Failed;
+    match part::begin(rt, command, out, name) {
+        Some(to) => convert(rt, command, address, start, from, script, to, out, name),
+        None => Status::Failed,
     }
-    convert(command, address, start, from, script, to, out, name)
 }
 
 // Converts the script where the address is one that a hub may have.
 fn convert_script(
+    rt: &(impl Files<File = File> + Print),
+    stdin: Stdin,
     command: Command,
     address: u8,
     start: PowerUp,
@@ -230,19 +249,18 @@ fn convert_script(
 ) -> Status {
     let number = scriptlines::address_refusal(address);
     if number != 0 {
-        return address::refuse(command, address, number);
+        return address::refuse(rt, command, address, number);
     }
-    let from = input::open(command, script);
-    if from < 0 {
-        return Status::Failed;
+    match input::open(rt, stdin, command, script) {
+        Some(from) => convert_file(rt, command, address, start, &from, script, out, name),
+        None => Status::Failed,
     }
-    let status = convert_file(command, address, start, from, script, out, name);
-    libc::close(from);
-    status
 }
 
 // Converts the script into the trace, the hub's address given as a word.
 fn convert_words(
+    rt: &(impl Files<File = File> + Print),
+    stdin: Stdin,
     command: Command,
     word: &[u8],
     start: PowerUp,
@@ -255,47 +273,68 @@ fn convert_words(
             address::say_form(command);
             Status::Failed
         }
-        Address::Given(given) => convert_script(command, given, start, script, out, name),
+        Address::Given(given) => {
+            convert_script(rt, stdin, command, given, start, script, out, name)
+        }
+    }
+}
+
+// A word of the call is missing or too long.
+fn fail(command: Command, what: &[u8], error: Error) -> Status {
+    say::failed(command, what, error);
+    Status::Failed
+}
+
+// Takes the name of PART.
+fn convert_into(
+    rt: &(impl Files<File = File> + Env + Print),
+    stdin: Stdin,
+    command: Command,
+    word: &[u8],
+    start: PowerUp,
+    script: &[u8],
+    out: &[u8],
+) -> Status {
+    let mut name = io::buffer();
+    match arguments::word(rt, 6, &mut name) {
+        Ok(length) => {
+            let name = &name[..length];
+            convert_words(rt, stdin, command, word, start, script, out, name)
+        }
+        Err(error) => fail(command, b"cannot write the trace", error),
     }
 }
 
 // Takes the names of OUT and of PART.
-fn convert_named(command: Command, word: &[u8], start: PowerUp, script: &[u8]) -> Status {
+fn convert_named(
+    rt: &(impl Files<File = File> + Env + Print),
+    stdin: Stdin,
+    command: Command,
+    word: &[u8],
+    start: PowerUp,
+    script: &[u8],
+) -> Status {
     let mut out = io::buffer();
-    let out_length = os::arg(5, &mut out);
-    if os::errno() != 0 {
-        say::failed(command, b"cannot write the trace");
-        return Status::Failed;
+    match arguments::word(rt, 5, &mut out) {
+        Ok(length) => convert_into(rt, stdin, command, word, start, script, &out[..length]),
+        Err(error) => fail(command, b"cannot write the trace", error),
     }
-    let mut name = io::buffer();
-    let name_length = os::arg(6, &mut name);
-    if os::errno() != 0 {
-        say::failed(command, b"cannot write the trace");
-        return Status::Failed;
-    }
-    convert_words(
-        command,
-        word,
-        start,
-        script,
-        &out[..out_length],
-        &name[..name_length],
-    )
 }
 
-pub(crate) fn run(command: Command, start: PowerUp) -> Status {
+pub(crate) fn run(
+    rt: &(impl Files<File = File> + Env + Print),
+    stdin: Stdin,
+    command: Command,
+    start: PowerUp,
+) -> Status {
     let mut word = io::buffer();
-    let word_length = os::arg(3, &mut word);
+    let word_length = arguments::word_or_none(rt, 3, &mut word);
     let mut script = io::buffer();
-    let script_length = os::arg(4, &mut script);
-    if os::errno() != 0 {
-        say::failed(command, b"cannot open the script");
-        return Status::Failed;
+    match arguments::word(rt, 4, &mut script) {
+        Ok(length) => {
+            let word = &word[..word_length];
+            convert_named(rt, stdin, command, word, start, &script[..length])
+        }
+        Err(error) => fail(command, b"cannot open the script", error),
     }
-    convert_named(
-        command,
-        &word[..word_length],
-        start,
-        &script[..script_length],
-    )
 }

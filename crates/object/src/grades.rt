@@ -2,7 +2,7 @@
 use page::Pen;
 use words::kinds::Kind;
 
-#[derive(Drop)]
+#[derive(Clone, Copy)]
 pub enum FindingGrade {
     Wrong,
     Meant,

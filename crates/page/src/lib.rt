@@ -12,7 +12,7 @@ pub mod shown;
 
 // Where the next piece is written: whether all before it were written, whether it was said why not, and how many bytes
 // stand on its line.
-#[derive(Drop)]
+#[derive(Clone, Copy)]
 pub struct Pen {
     pub ok: bool,
     pub said: bool,
@@ -20,7 +20,7 @@ pub struct Pen {
 }
 
 // A list on the page: the pen, and how many things of the list were told.
-#[derive(Drop)]
+#[derive(Clone, Copy)]
 pub struct Listed {
     pub pen: Pen,
     pub count: u64,

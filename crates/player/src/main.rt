@@ -4,36 +4,51 @@
 
 mod run;
 
-use console::say::Command;
+use console::say::{Command, STDERR_FILENO};
 use console::status::Status;
-use console::{input, say};
-use libc::STDERR_FILENO;
+use console::{arguments, input, say};
+use std::fs::File;
+use std::io::Stdin;
+use std::rt::{Env, Files};
+
+// Plays the file with that name.
+fn play_named(
+    rt: &(impl Files<File = File> + Print),
+    stdin: Stdin,
+    command: Command,
+    path: &[u8],
+) -> Status {
+    match input::open(rt, stdin, command, path) {
+        Some(from) => run::play_file(rt, command, &from, path),
+        None => Status::Failed,
+    }
+}
 
 // Plays the file that the second argument names.
-fn play(command: Command) -> Status {
+fn play(rt: &(impl Files<File = File> + Env + Print), stdin: Stdin, command: Command) -> Status {
     let mut path = io::buffer();
-    let length = os::arg(2, &mut path);
-    if os::errno() != 0 {
-        say::failed(command, b"cannot open the trace");
-        return Status::Failed;
+    match arguments::word(rt, 2, &mut path) {
+        Ok(length) => play_named(rt, stdin, command, &path[..length]),
+        Err(error) => {
+            say::failed(command, b"cannot open the trace", error);
+            Status::Failed
+        }
     }
-    let fd = input::open(command, &path[..length]);
-    if fd < 0 {
-        return Status::Failed;
-    }
-    let status = run::play_file(command, fd, &path[..length]);
-    libc::close(fd);
-    status
 }
 
 // The program's work, by the command that was typed.
-fn play_as(word: &[u8], words: usize) -> Status {
+fn play_as(
+    rt: &(impl Files<File = File> + Env + Print),
+    stdin: Stdin,
+    word: &[u8],
+    words: usize,
+) -> Status {
     if words == 3 {
         if check::same(word, b"play") {
-            return play(Command::Play);
+            return play(rt, stdin, Command::Play);
         }
         if check::same(word, b"run") {
-            return play(Command::Run);
+            return play(rt, stdin, Command::Run);
         }
     }
     io::write_all(
@@ -43,9 +58,10 @@ fn play_as(word: &[u8], words: usize) -> Status {
     Status::Failed
 }
 
-fn main() {
+fn main(rt: HostRuntime) {
     let mut word = io::buffer();
-    let length = os::arg(1, &mut word);
-    let status = play_as(&word[..length], os::arg_count());
+    let length = arguments::word_or_none(&rt, 1, &mut word);
+    let words = arguments::count(&rt);
+    let status = play_as(&rt, rt.stdin(), &word[..length], words);
     console::status::tell(status);
 }

@@ -6,10 +6,10 @@ ghost use Rattle.playback.specs.Playing.{packet_room};
 ghost use Rattle.playback.specs.Windows.{text_room};
 
 use console::input::Read;
+use console::opened::Opened;
 use console::say::Command;
 use console::status::Status;
 use console::{input, say};
-use libc::STDOUT_FILENO;
 use playback::Session;
 use turns::FileRun;
 
@@ -20,7 +20,7 @@ const COUNTS_ROOM: usize = 64;
 const RECORD_MARK: u8 = 0x9A;
 
 // Where the program stands: the run, whether it is over, and whether a file failed.
-#[derive(Drop)]
+#[derive(Clone, Copy)]
 struct Step {
     run: FileRun,
     over: bool,
@@ -28,14 +28,16 @@ struct Step {
 }
 
 // Writes the text up to its end, or says that it cannot be written.
-fn write_out(command: Command, text: &[u8], end: usize) -> bool
+fn write_out(rt: &impl Print, command: Command, text: &[u8], end: usize) -> bool
     requires { end ≤ length text.now }
 {
-    if io::write_all(STDOUT_FILENO, &text[0..end]) {
-        return true;
+    match rt.write_all(&text[0..end]) {
+        Ok(()) => true,
+        Err(error) => {
+            say::failed(command, b"cannot write the output", error);
+            false
+        }
     }
-    say::failed(command, b"cannot write the output");
-    false
 }
 
 // Puts the last line at the start of the text, whole, and answers its end.
@@ -48,36 +50,44 @@ fn put_counts(session: Session, text: &mut [u8]) -> usize
 }
 
 // Writes the last line.
-fn write_counts(command: Command, session: Session) -> bool {
+fn write_counts(rt: &impl Print, command: Command, session: Session) -> bool {
     let mut text = [0u8; COUNTS_ROOM];
     let end = put_counts(session, &mut text);
-    write_out(command, &text, end)
+    write_out(rt, command, &text, end)
 }
 
 // Writes the text of a turn and, where nothing is left to play, the last line; answers whether it was written.
-fn write_text(command: Command, text: &[u8], end: usize, session: Session, done: bool) -> bool
+fn write_text(
+    rt: &impl Print,
+    command: Command,
+    text: &[u8],
+    end: usize,
+    session: Session,
+    done: bool,
+) -> bool
     requires { end ≤ length text.now }
 {
-    if !write_out(command, text, end) {
+    if !write_out(rt, command, text, end) {
         return false;
     }
     if done {
-        return write_counts(command, session);
+        return write_counts(rt, command, session);
     }
     true
 }
 
 // Reads, plays a turn, and writes its text.
 fn take_turn(
+    rt: &impl Print,
     command: Command,
-    fd: i32,
+    from: &Opened,
     path: &[u8],
     run: FileRun,
     buffer: &mut [u8],
     packets: &mut [u8],
     out: &mut [u8],
 ) -> Step {
-    match input::read_on(command, fd, path, run.window, buffer) {
+    match input::read_on(command, from, path, run.window, buffer) {
         Read::Failed => Step {
             run,
             over: true,
@@ -87,7 +97,7 @@ fn take_turn(
             let turn = turns::turn(run, got, buffer, packets, out);
             let after = turn.run;
             let session = after.session;
-            let written = write_text(command, out, turn.end, session, turn.done);
+            let written = write_text(rt, command, out, turn.end, session, turn.done);
             Step {
                 run: after,
                 over: turn.done || !written,
@@ -100,8 +110,9 @@ fn take_turn(
 // A proved loop has to end, and nothing says that a file does: the turns are counted down, from a number that no file
 // uses up (`HoweverCut` in `turns` says how many a file takes; the rest of what it asks is required here).
 fn play_all(
+    rt: &impl Print,
     command: Command,
-    fd: i32,
+    from: &Opened,
     path: &[u8],
     buffer: &mut [u8],
     packets: &mut [u8],
@@ -120,7 +131,7 @@ fn play_all(
     let mut turns = u64::MAX;
     while turns > 0 && !step.over {
         let run = step.run;
-        step = take_turn(command, fd, path, run, buffer, packets, out);
+        step = take_turn(rt, command, from, path, run, buffer, packets, out);
         turns -= 1;
     }
     step
@@ -171,10 +182,10 @@ fn ending(command: Command, step: Step, first: u8) -> Status {
 }
 
 // Plays the open file.
-pub(crate) fn play_file(command: Command, fd: i32, path: &[u8]) -> Status {
+pub(crate) fn play_file(rt: &impl Print, command: Command, from: &Opened, path: &[u8]) -> Status {
     let mut buffer = io::large_buffer();
     let mut out = io::large_buffer();
     let mut packets = packet_buffer();
-    let step = play_all(command, fd, path, &mut buffer, &mut packets, &mut out);
+    let step = play_all(rt, command, from, path, &mut buffer, &mut packets, &mut out);
     ending(command, step, buffer[0])
 }

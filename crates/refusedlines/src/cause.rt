@@ -2,9 +2,9 @@
 // programs leave there.
 ghost use Rattle.std.specs.Prelude.{◌≤◌, length};
 
-use libc::STDERR_FILENO;
+use console::say::STDERR_FILENO;
 
-#[derive(Drop)]
+#[derive(Clone, Copy)]
 pub(crate) enum Cause {
     NotTold,
     NoText,

@@ -5,9 +5,9 @@
 ghost use Rattle.std.specs.Prelude.{◌≤◌};
 
 use console::input::Read;
-use console::say::Command;
+use console::opened::Opened;
+use console::say::{Command, STDERR_FILENO};
 use console::{input, say, shown};
-use libc::STDERR_FILENO;
 use scriptlines::{LineRefusal, ScriptFile, ScriptRun};
 use std::num::wrapping_add_u64;
 use streams::Window;
@@ -22,7 +22,7 @@ const MOST_NAMED: u64 = 20;
 
 // How far the refused lines are named: the script, whether its next bytes are still those of a refused line, how many
 // lines were refused, and whether nothing is left to read.
-#[derive(Drop)]
+#[derive(Clone, Copy)]
 struct Naming {
     file: ScriptFile,
     inside: bool,
@@ -135,7 +135,7 @@ fn take_bytes(
 
 fn step(
     command: Command,
-    from: i32,
+    from: &Opened,
     script: &[u8],
     naming: Naming,
     buffer: &mut [u8],
@@ -168,7 +168,7 @@ fn say_more(command: Command, count: u64) {
 // down, from a number that no file uses up.
 pub fn name_all(
     command: Command,
-    from: i32,
+    from: &Opened,
     script: &[u8],
     file: ScriptFile,
     buffer: &mut [u8],

@@ -15,7 +15,7 @@ use std::num::wrapping_add_u64;
 
 // The writes, whether the blocks may be run in any order and how many there are; the hub, its registers with their
 // origins; which selection ticked each port last; what was counted; and the addresses that aliases had.
-#[derive(Drop)]
+#[derive(Clone, Copy)]
 pub(crate) struct Facts {
     pub writes: u64,
     pub any_order: bool,

@@ -14,7 +14,7 @@ use words::kinds::Kind;
 // earlier selection where the port is ticked again, what its register held before, and where that is an alias whose
 // address no device of the port hears any more, the origin of the alias, 0 for none; and whether there is a finding of
 // each other kind.
-#[derive(Drop)]
+#[derive(Clone, Copy)]
 pub(crate) struct Found {
     pub write: Write,
     pub reached: u8,

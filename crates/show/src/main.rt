@@ -31,7 +31,7 @@ use told::HubStart;
 use walk::Run;
 
 // What is asked for: the screen of show or of check, or the object for either.
-#[derive(Drop)]
+#[derive(Clone, Copy)]
 enum Asked {
     Show,
     Check,

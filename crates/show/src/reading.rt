@@ -9,7 +9,7 @@ use ordering::inside::Extent;
 use page::Listed;
 
 // What every way needs: the command, the file, the hub's own address and start, and the extent of all writes.
-#[derive(Drop)]
+#[derive(Clone, Copy)]
 pub(crate) struct Reading {
     pub command: Command,
     pub file: File,

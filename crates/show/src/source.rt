@@ -8,7 +8,7 @@ use scriptwrites::NextWrite;
 use tracewrites::{NextRecord, TraceFile};
 
 // Which of the two the file is, and how far it is read.
-#[derive(Drop)]
+#[derive(Clone, Copy)]
 pub(crate) struct Source {
     pub is_trace: bool,
     pub script: ScriptFile,
@@ -17,7 +17,7 @@ pub(crate) struct Source {
 
 // What comes next: no write; the hub's own address and its start; or so many writes with one number, whose values are
 // lent.
-#[derive(Drop)]
+#[derive(Clone, Copy)]
 pub(crate) enum Next {
     Nothing,
     Hub {
@@ -32,7 +32,7 @@ pub(crate) enum Next {
 }
 
 // The source after a turn, what came, whether nothing is left, and whether the file cannot be read.
-#[derive(Drop)]
+#[derive(Clone, Copy)]
 pub(crate) struct SourceTurn {
     pub source: Source,
     pub next: Next,

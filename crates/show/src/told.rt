@@ -11,7 +11,7 @@ use words::kinds::Kind;
 // object; or something is told on the screen: the blocks that select a port again and replace something, the writes
 // while no port is selected (with how many things stand before them), the numbers of the writes of a kind, and the odd
 // values of aliases.
-#[derive(Drop)]
+#[derive(Clone, Copy)]
 pub(crate) enum Task {
     Survey,
     Count(Kind),
@@ -23,14 +23,14 @@ pub(crate) enum Task {
 }
 
 // The hub's own address, and how it starts.
-#[derive(Drop)]
+#[derive(Clone, Copy)]
 pub(crate) struct HubStart {
     pub address: u8,
     pub start: PowerUp,
 }
 
 // The task, the file, and the extent of all writes.
-#[derive(Drop)]
+#[derive(Clone, Copy)]
 pub(crate) struct Job {
     pub task: Task,
     pub file: File,
@@ -38,7 +38,7 @@ pub(crate) struct Job {
 }
 
 // A register write, with its number.
-#[derive(Drop)]
+#[derive(Clone, Copy)]
 pub(crate) struct Write {
     pub number: u64,
     pub offset: u8,
@@ -47,7 +47,7 @@ pub(crate) struct Write {
 
 // How many blocks select a port again and replace something, how many do so and replace nothing, and how many writes
 // there are of the other kinds.
-#[derive(Drop)]
+#[derive(Clone, Copy)]
 pub(crate) struct Counts {
     pub again: u64,
     pub twice: u64,
@@ -60,7 +60,7 @@ pub(crate) struct Counts {
 
 // The block that is gone through: its selection, the earlier one that ticked each of its ports, 0 for none, and the
 // ports of which something was replaced.
-#[derive(Drop)]
+#[derive(Clone, Copy)]
 pub(crate) struct Block {
     pub selection: u64,
     pub earlier: [u64; 4],
@@ -68,7 +68,7 @@ pub(crate) struct Block {
 }
 
 // The list that is told, the number that was told last, the counts, the block, and the addresses that aliases had.
-#[derive(Drop)]
+#[derive(Clone, Copy)]
 pub(crate) struct Told {
     pub list: Listed,
     pub last: u64,

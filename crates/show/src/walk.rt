@@ -10,7 +10,7 @@ use std::num::{wrapping_add_u8, wrapping_add_u64};
 
 // After some writes: the hub's own address and start, how many writes there were, what is known after them, and what
 // was told.
-#[derive(Drop)]
+#[derive(Clone, Copy)]
 pub(crate) struct Run {
     pub hub: HubStart,
     pub writes: u64,
@@ -19,7 +19,7 @@ pub(crate) struct Run {
 }
 
 // How far the file is gone through: the source, the run, and whether nothing is left or the file cannot be read.
-#[derive(Drop)]
+#[derive(Clone, Copy)]
 pub(crate) struct Walk {
     pub source: Source,
     pub run: Run,
