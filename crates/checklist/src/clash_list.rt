@@ -52,7 +52,7 @@ fn begin(list: Listed, wanted: Wanted) -> Pen {
 }
 
 // The lines as they are typed.
-fn typed_lines(pen: Pen, file: File, lines: Lines) -> Pen {
+fn typed_lines(pen: Pen, file: File<'_>, lines: Lines) -> Pen {
     let mut written = pen;
     for i in 0..12 {
         written = typed::line(written, file, lines.numbers[i]);
@@ -87,7 +87,7 @@ fn all_started(pen: Pen, state: RegistersWithOrigins, ports: u8, format: Format)
 fn channel(
     list: Listed,
     wanted: Wanted,
-    file: File,
+    file: File<'_>,
     hub: Hub,
     state: RegistersWithOrigins,
     format: Format,
@@ -108,7 +108,7 @@ fn channel(
 fn output(
     list: Listed,
     wanted: Wanted,
-    file: File,
+    file: File<'_>,
     hub: Hub,
     state: RegistersWithOrigins,
     format: Format,
@@ -123,7 +123,7 @@ fn output(
 fn all_channels(
     list: Listed,
     wanted: Wanted,
-    file: File,
+    file: File<'_>,
     hub: Hub,
     state: RegistersWithOrigins,
 ) -> Listed {
@@ -136,7 +136,7 @@ fn all_channels(
 fn address(
     list: Listed,
     wanted: Wanted,
-    file: File,
+    file: File<'_>,
     hub: Hub,
     state: RegistersWithOrigins,
     address: u8,
@@ -154,7 +154,7 @@ fn address(
 fn all_addresses(
     list: Listed,
     wanted: Wanted,
-    file: File,
+    file: File<'_>,
     hub: Hub,
     state: RegistersWithOrigins,
 ) -> Listed {
@@ -169,7 +169,7 @@ fn all_addresses(
 pub fn clash_list(
     list: Listed,
     wanted: Wanted,
-    file: File,
+    file: File<'_>,
     hub: Hub,
     state: RegistersWithOrigins,
 ) -> Listed {

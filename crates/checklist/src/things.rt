@@ -21,7 +21,7 @@ pub(crate) fn number(list: Listed) -> Pen {
 }
 
 // A block selects a port again, and replaces something of it. Blocks are the first things.
-pub fn selected_again(list: Listed, file: File, port: u8, first: u64, again: u64) -> Listed {
+pub fn selected_again(list: Listed, file: File<'_>, port: u8, first: u64, again: u64) -> Listed {
     if MOST_PRINTED <= list.count {
         return page::one_more(list, list.pen);
     }
@@ -40,7 +40,7 @@ fn was_printed(list: Listed) -> bool {
 }
 
 // It does so with a port more.
-pub fn selected_too(list: Listed, file: File, port: u8, first: u64) -> Pen {
+pub fn selected_too(list: Listed, file: File<'_>, port: u8, first: u64) -> Pen {
     if !was_printed(list) {
         return list.pen;
     }
@@ -53,7 +53,7 @@ pub fn selected_too(list: Listed, file: File, port: u8, first: u64) -> Pen {
 // What it replaces on a port.
 pub fn replaced(
     list: Listed,
-    file: File,
+    file: File<'_>,
     port: u8,
     offset: u8,
     old: u8,
@@ -72,7 +72,7 @@ pub fn replaced(
 }
 
 // A per-port register is written while no port is selected; `before` is how many things stand before the first such.
-pub fn no_port(list: Listed, before: u64, file: File, offset: u8, write: u64) -> Listed {
+pub fn no_port(list: Listed, before: u64, file: File<'_>, offset: u8, write: u64) -> Listed {
     if wrapping_add_u64(before, MOST_PRINTED) <= list.count {
         return page::one_more(list, list.pen);
     }
@@ -129,7 +129,7 @@ fn selection(pen: Pen, is_trace: bool, port: u8, tick: LastTick) -> Pen {
 
 fn unset_port(
     list: Listed,
-    file: File,
+    file: File<'_>,
     state: RegistersWithOrigins,
     port: u8,
     tick: LastTick,
@@ -149,7 +149,7 @@ fn unset_port(
 // A port that is forwarded and was not set up, with the last selection of it.
 pub fn not_set_up(
     list: Listed,
-    file: File,
+    file: File<'_>,
     hub: Hub,
     state: RegistersWithOrigins,
     port: u8,

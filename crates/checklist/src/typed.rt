@@ -1,12 +1,13 @@
 // A line of the script as it is typed, found again in the file; the file's place stays.
+use console::opened::Opened;
 use page::{Pen, shown};
 use std::num::wrapping_add_u64;
 
-// The file that is told about: its descriptor, where in it to begin, and whether it is a trace.
+// The file that is told about, open; where in it to begin, and whether it is a trace.
 #[derive(Clone, Copy)]
-pub struct File {
-    pub fd: i32,
-    pub start: i64,
+pub struct File<'a> {
+    pub opened: &'a Opened,
+    pub start: u64,
     pub is_trace: bool,
 }
 
@@ -78,22 +79,20 @@ fn ended(search: Search, pen: Pen) -> Search {
 }
 
 // Reads the next piece.
-fn look_on(fd: i32, search: Search, number: u64) -> Search {
+fn look_on(from: &Opened, search: Search, number: u64) -> Search {
     let mut piece = io::buffer();
-    let got = libc::read(fd, &mut piece);
-    if got < 0 {
-        let words = page::text(search.pen, b"(the line cannot be read again)");
-        return ended(search, words);
+    match from.read(&mut piece) {
+        Ok(0) => ended(search, search.pen),
+        Ok(count) => take_bytes(search, &piece[..count], number),
+        Err(_) => {
+            let words = page::text(search.pen, b"(the line cannot be read again)");
+            ended(search, words)
+        }
     }
-    if got == 0 {
-        return ended(search, search.pen);
-    }
-    let count = io::count(got, &piece);
-    take_bytes(search, &piece[..count], number)
 }
 
 // Looks for the line, and writes it. The turns are counted down, from a number that no file uses up.
-fn find_and_write(pen: Pen, fd: i32, number: u64) -> Pen {
+fn find_and_write(pen: Pen, from: &Opened, number: u64) -> Pen {
     let mut search = Search {
         line: 1,
         begun: false,
@@ -103,14 +102,14 @@ fn find_and_write(pen: Pen, fd: i32, number: u64) -> Pen {
     };
     let mut turns = u64::MAX;
     while turns > 0 && !search.over {
-        search = look_on(fd, search, number);
+        search = look_on(from, search, number);
         turns -= 1;
     }
     search.pen
 }
 
 // A line of the script with its number, as it is typed; of a trace the number of the record. 0 is none.
-pub(crate) fn line(pen: Pen, file: File, number: u64) -> Pen {
+pub(crate) fn line(pen: Pen, file: File<'_>, number: u64) -> Pen {
     if number == 0 {
         return pen;
     }
@@ -118,9 +117,11 @@ pub(crate) fn line(pen: Pen, file: File, number: u64) -> Pen {
         return page::line_end(page::numbered(pen, b"    record ", number));
     }
     let numbered = page::text(page::number_before(pen, number, 6), b"  ");
-    let place = libc::lseek(file.fd, 0, libc::SEEK_CUR);
-    libc::lseek(file.fd, file.start, libc::SEEK_SET);
-    let written = find_and_write(numbered, file.fd, number);
-    libc::lseek(file.fd, place, libc::SEEK_SET);
+    let place = file.opened.place();
+    let _ = file.opened.go_to(file.start);
+    let written = find_and_write(numbered, file.opened, number);
+    if let Ok(place) = place {
+        let _ = file.opened.go_to(place);
+    }
     page::line_end(written)
 }

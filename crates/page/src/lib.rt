@@ -5,16 +5,21 @@
 ghost use Rattle.std.specs.Prelude.{◌≡◌, ◌+◌, ◌%◌, ◌^◌, true, false, length};
 
 use buffers::text::hex_digit;
-use libc::STDOUT_FILENO;
+use std::io::{Error, Stdout};
 use std::num::wrapping_add_u64;
 
 pub mod shown;
 
-// Where the next piece is written: whether all before it were written, whether it was said why not, and how many bytes
-// stand on its line.
+// The system's number for an error of which no more is known.
+const EIO: i32 = 5;
+
+// Where the next piece is written: standard output; whether all before it were written, else the number of the system's
+// error, and whether it was said why not; and how many bytes stand on its line.
 #[derive(Clone, Copy)]
 pub struct Pen {
+    pub out: Stdout,
     pub ok: bool,
+    pub error: i32,
     pub said: bool,
     pub column: u64,
 }
@@ -27,24 +32,44 @@ pub struct Listed {
 }
 
 // At the start of the page.
-pub fn start() -> Pen
-    ensures { result ≡ record { ok = true; said = false; column = 0 } }
+pub fn start(out: Stdout) -> Pen
+    ensures { result ≡ record { out = out; ok = true; error = 0; said = false; column = 0 } }
 {
     Pen {
+        out,
         ok: true,
+        error: 0,
         said: false,
         column: 0,
     }
 }
 
 // Nothing more is written, and it was said why.
-pub fn stopped() -> Pen
-    ensures { result ≡ record { ok = false; said = true; column = 0 } }
+pub fn stopped(out: Stdout) -> Pen
+    ensures { result ≡ record { out = out; ok = false; error = 0; said = true; column = 0 } }
 {
     Pen {
+        out,
         ok: false,
+        error: 0,
         said: true,
         column: 0,
+    }
+}
+
+// Why a piece could not be written.
+pub fn failure(pen: Pen) -> Error {
+    Error::from_raw_os_error(pen.error)
+}
+
+// The piece could not be written.
+fn unwritten(pen: Pen, error: Error) -> Pen {
+    Pen {
+        out: pen.out,
+        ok: false,
+        error: error.raw_os_error().unwrap_or(EIO),
+        said: false,
+        column: pen.column,
     }
 }
 
@@ -53,21 +78,23 @@ pub fn text(pen: Pen, words: &[u8]) -> Pen {
     if !pen.ok {
         return pen;
     }
-    Pen {
-        ok: io::write_all(STDOUT_FILENO, words),
-        said: false,
-        column: wrapping_add_u64(pen.column, words.len() as u64),
+    match pen.out.write_all(words) {
+        Ok(()) => Pen {
+            out: pen.out,
+            ok: true,
+            error: 0,
+            said: false,
+            column: wrapping_add_u64(pen.column, words.len() as u64),
+        },
+        Err(error) => unwritten(pen, error),
     }
 }
 
 // The end of a line.
 pub fn line_end(pen: Pen) -> Pen {
-    let written = text(pen, b"\n");
-    Pen {
-        ok: written.ok,
-        said: written.said,
-        column: 0,
-    }
+    let mut written = text(pen, b"\n");
+    written.column = 0;
+    written
 }
 
 // Words, and the end of their line.

@@ -18,7 +18,7 @@ use words::kinds::Kind;
 use words::numbers;
 
 // A list that is told by a way through the writes, where there is something to tell.
-fn tell_if(reading: Reading, path: &[u8], task: Task, count: u64, list: Listed) -> Listed {
+fn tell_if(reading: Reading<'_>, path: &[u8], task: Task, count: u64, list: Listed) -> Listed {
     if count == 0 {
         return list;
     }
@@ -28,7 +28,7 @@ fn tell_if(reading: Reading, path: &[u8], task: Task, count: u64, list: Listed) 
 // The ports that are forwarded and were not set up.
 fn not_set_up(
     list: Listed,
-    file: File,
+    file: File<'_>,
     hub: Hub,
     state: RegistersWithOrigins,
     ticks: Ticks,
@@ -41,7 +41,7 @@ fn not_set_up(
 
 // Everything that looks wrong.
 fn wrong(
-    reading: Reading,
+    reading: Reading<'_>,
     path: &[u8],
     pen: Pen,
     hub: Hub,
@@ -62,13 +62,13 @@ fn wrong(
 }
 
 // What is shared as meant.
-fn meant(file: File, pen: Pen, hub: Hub, state: RegistersWithOrigins) -> Pen {
+fn meant(file: File<'_>, pen: Pen, hub: Hub, state: RegistersWithOrigins) -> Pen {
     let list = clash_list::clash_list(page::new_list(pen), Wanted::Meant, file, hub, state);
     list.pen
 }
 
 // The notes of a kind, with the numbers of their writes.
-fn note(reading: Reading, path: &[u8], kind: Kind, count: u64, pen: Pen) -> Pen {
+fn note(reading: Reading<'_>, path: &[u8], kind: Kind, count: u64, pen: Pen) -> Pen {
     if count == 0 {
         return pen;
     }
@@ -78,7 +78,7 @@ fn note(reading: Reading, path: &[u8], kind: Kind, count: u64, pen: Pen) -> Pen 
 }
 
 // The odd values of aliases, each explained.
-fn odd_aliases(reading: Reading, path: &[u8], count: u64, pen: Pen) -> Pen {
+fn odd_aliases(reading: Reading<'_>, path: &[u8], count: u64, pen: Pen) -> Pen {
     if count == 0 {
         return pen;
     }
@@ -87,8 +87,8 @@ fn odd_aliases(reading: Reading, path: &[u8], count: u64, pen: Pen) -> Pen {
 }
 
 // How many writes go to a shared register between the blocks: where the blocks may be run in any order there is none.
-fn count_shared(reading: Reading, path: &[u8], any_order: bool) -> Listed {
-    let nothing = page::new_list(page::start());
+fn count_shared(reading: Reading<'_>, path: &[u8], any_order: bool) -> Listed {
+    let nothing = page::new_list(page::start(reading.out));
     if any_order {
         return nothing;
     }
@@ -96,7 +96,13 @@ fn count_shared(reading: Reading, path: &[u8], any_order: bool) -> Listed {
 }
 
 // The notes that are found at a write; `shared` is how many go to a shared register between the blocks.
-fn notes_at_writes(reading: Reading, path: &[u8], pen: Pen, shared: u64, counts: Counts) -> Pen {
+fn notes_at_writes(
+    reading: Reading<'_>,
+    path: &[u8],
+    pen: Pen,
+    shared: u64,
+    counts: Counts,
+) -> Pen {
     let twice = note(reading, path, Kind::PortTwice, counts.twice, pen);
     let inside = note(reading, path, Kind::SharedInBlock, shared, twice);
     let followed = note(
@@ -129,7 +135,7 @@ fn has_notes(hub: Hub, shared: u64, counts: Counts) -> bool {
 }
 
 fn all_notes(
-    reading: Reading,
+    reading: Reading<'_>,
     path: &[u8],
     pen: Pen,
     hub: Hub,
@@ -148,13 +154,13 @@ fn all_notes(
     notes::no_address(noted, hub)
 }
 
-pub(crate) fn print(reading: Reading, path: &[u8], facts: Facts) -> Pen {
+pub(crate) fn print(reading: Reading<'_>, path: &[u8], facts: Facts) -> Pen {
     let hub = facts.hub;
     let state = facts.state;
     let counts = facts.counts;
     let given = reading.hub;
     let start = given.start;
-    let named = title::file_on_hub(page::start(), path, given.address, start);
+    let named = title::file_on_hub(page::start(reading.out), path, given.address, start);
     let things = facts::count_wrong(facts);
     let counted = closing::count_of_things(named, facts::write_counts(facts), things);
     let told = wrong(reading, path, counted, hub, state, facts.ticks, counts);

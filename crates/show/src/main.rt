@@ -18,15 +18,20 @@ mod walk;
 
 use checklist::typed::File;
 use console::address::Address;
-use console::say::Command;
+use console::again::Again;
+use console::opened::Opened;
+use console::say::{Command, STDERR_FILENO};
 use console::status::Status;
-use console::{address, input, say, spool};
+use console::{address, again, arguments, input, say};
 use facts::Facts;
-use libc::STDERR_FILENO;
 use page::Pen;
 use reading::Reading;
 use registers::power_up::PowerUp;
 use source::Source;
+use std::fs;
+use std::io::{Stdin, Stdout};
+use std::random::RandomSource;
+use std::rt::{Env, Files};
 use told::HubStart;
 use walk::Run;
 
@@ -39,6 +44,13 @@ enum Asked {
     CheckObject,
 }
 
+// Standard input and standard output.
+#[derive(Clone, Copy)]
+struct Streams {
+    stdin: Stdin,
+    stdout: Stdout,
+}
+
 // The command that was typed.
 fn command_of(asked: Asked) -> Command {
     match asked {
@@ -49,7 +61,7 @@ fn command_of(asked: Asked) -> Command {
     }
 }
 
-fn print(asked: Asked, reading: Reading, path: &[u8], facts: Facts) -> Pen {
+fn print(asked: Asked, reading: Reading<'_>, path: &[u8], facts: Facts) -> Pen {
     match asked {
         Asked::Show => show_screen::print(reading, path, facts),
         Asked::Check => check_screen::print(reading, path, facts),
@@ -62,7 +74,7 @@ fn print(asked: Asked, reading: Reading, path: &[u8], facts: Facts) -> Pen {
 fn status_of(asked: Asked, command: Command, pen: Pen, wrong: u64) -> Status {
     if !pen.ok {
         if !pen.said {
-            say::failed(command, b"cannot write the output");
+            say::failed(command, b"cannot write the output", page::failure(pen));
         }
         return Status::Failed;
     }
@@ -88,24 +100,32 @@ fn not_taken(asked: Asked, status: Status) -> Status {
 }
 
 // The file is not taken: says so.
-fn refuse(asked: Asked, file: File, path: &[u8], source: Source, buffer: &mut [u8]) -> Status {
+fn refuse(
+    out: Stdout,
+    asked: Asked,
+    file: File<'_>,
+    path: &[u8],
+    source: Source,
+    buffer: &mut [u8],
+) -> Status {
     let command = command_of(asked);
     if file.is_trace {
-        return not_taken(asked, refused::trace(command, source, buffer));
+        return not_taken(asked, refused::trace(&out, command, source, buffer));
     }
     not_taken(
         asked,
-        refused::script(command, file.fd, path, source, buffer),
+        refused::script(&out, command, file.opened, path, source, buffer),
     )
 }
 
 // Tells what the writes of the file come to.
-fn tell(asked: Asked, file: File, path: &[u8], run: Run) -> Status {
+fn tell(out: Stdout, asked: Asked, file: File<'_>, path: &[u8], run: Run) -> Status {
     let command = command_of(asked);
     let known = run.known;
     let whole = known.extent;
     let hub = run.hub;
     let reading = Reading {
+        out,
         command,
         file,
         hub,
@@ -117,74 +137,98 @@ fn tell(asked: Asked, file: File, path: &[u8], run: Run) -> Status {
 }
 
 // Answers what the open file comes to.
-fn answer(asked: Asked, file: File, path: &[u8], hub: HubStart) -> Status {
+fn answer(out: Stdout, asked: Asked, file: File<'_>, path: &[u8], hub: HubStart) -> Status {
     let command = command_of(asked);
     let mut buffer = io::large_buffer();
     let mut values = io::buffer();
-    let end = reading::survey(command, file, path, hub, &mut buffer, &mut values);
+    let end = reading::survey(out, command, file, path, hub, &mut buffer, &mut values);
     if end.failed || !end.over {
         return Status::Failed;
     }
     let source = end.source;
     if source::refusal_number(source) != 0 {
-        return refuse(asked, file, path, source, &mut buffer);
+        return refuse(out, asked, file, path, source, &mut buffer);
     }
-    tell(asked, file, path, end.run)
+    tell(out, asked, file, path, end.run)
+}
+
+// Answers for a file that is read again and again.
+fn answer_again(
+    out: Stdout,
+    asked: Asked,
+    again: &Again,
+    path: &[u8],
+    is_trace: bool,
+    hub: HubStart,
+) -> Status {
+    let file = File {
+        opened: &again.file,
+        start: again.start,
+        is_trace,
+    };
+    answer(out, asked, file, path, hub)
 }
 
 // A file that cannot be read again is copied first.
-fn answer_file(asked: Asked, fd: i32, path: &[u8], is_trace: bool, hub: HubStart) -> Status {
-    let command = command_of(asked);
-    let start = libc::lseek(fd, 0, libc::SEEK_CUR);
-    if 0 <= start {
-        let file = File {
-            fd,
-            start,
-            is_trace,
-        };
-        return answer(asked, file, path, hub);
+fn answer_file(
+    rt: &(impl Files<File = fs::File> + RandomSource),
+    out: Stdout,
+    asked: Asked,
+    opened: Opened,
+    path: &[u8],
+    is_trace: bool,
+    hub: HubStart,
+) -> Status {
+    match again::make(rt, command_of(asked), opened, path) {
+        Some(again) => answer_again(out, asked, &again, path, is_trace, hub),
+        None => Status::Failed,
     }
-    if os::errno() != libc::ESPIPE {
-        input::say_unread(command, path);
-        return Status::Failed;
+}
+
+// Answers for the file with that name.
+fn answer_named(
+    rt: &(impl Files<File = fs::File> + RandomSource),
+    streams: Streams,
+    asked: Asked,
+    path: &[u8],
+    is_trace: bool,
+    hub: HubStart,
+) -> Status {
+    match input::open(rt, streams.stdin, command_of(asked), path) {
+        Some(opened) => answer_file(rt, streams.stdout, asked, opened, path, is_trace, hub),
+        None => Status::Failed,
     }
-    let copy = spool::copy(command, fd, path);
-    if copy < 0 {
-        return Status::Failed;
-    }
-    let file = File {
-        fd: copy,
-        start: 0,
-        is_trace,
-    };
-    let status = answer(asked, file, path, hub);
-    libc::close(copy);
-    status
 }
 
 // Answers for the file that an argument names.
-fn answer_argument(asked: Asked, argument: usize, is_trace: bool, hub: HubStart) -> Status {
-    let command = command_of(asked);
+fn answer_argument(
+    rt: &(impl Files<File = fs::File> + RandomSource + Env),
+    streams: Streams,
+    asked: Asked,
+    argument: usize,
+    is_trace: bool,
+    hub: HubStart,
+) -> Status {
     let mut path = io::buffer();
-    let length = os::arg(argument, &mut path);
-    if os::errno() != 0 {
-        say::failed(command, b"cannot open the file");
-        return Status::Failed;
+    match arguments::word(rt, argument, &mut path) {
+        Ok(length) => answer_named(rt, streams, asked, &path[..length], is_trace, hub),
+        Err(error) => {
+            say::failed(command_of(asked), b"cannot open the file", error);
+            Status::Failed
+        }
     }
-    let fd = input::open(command, &path[..length]);
-    if fd < 0 {
-        return Status::Failed;
-    }
-    let status = answer_file(asked, fd, &path[..length], is_trace, hub);
-    libc::close(fd);
-    status
 }
 
 // Answers for a script on a hub that starts so, and whose address an argument gives.
-fn answer_script(asked: Asked, start: PowerUp) -> Status {
+fn answer_script(
+    rt: &(impl Files<File = fs::File> + RandomSource + Env),
+    streams: Streams,
+    asked: Asked,
+    start: PowerUp,
+) -> Status {
     let command = command_of(asked);
     let mut word = io::buffer();
-    let length = os::arg(3, &mut word);
+    let length = arguments::word_or_none(rt, 3, &mut word);
     match address::of_word(&word[..length]) {
         Address::NotTwoDigits => {
             address::say_form(command);
@@ -193,33 +237,39 @@ fn answer_script(asked: Asked, start: PowerUp) -> Status {
         Address::Given(given) => {
             let number = scriptlines::address_refusal(given);
             if number != 0 {
-                return not_taken(asked, address::refuse(command, given, number));
+                let refused = address::refuse(&streams.stdout, command, given, number);
+                return not_taken(asked, refused);
             }
             let hub = HubStart {
                 address: given,
                 start,
             };
-            answer_argument(asked, 4, false, hub)
+            answer_argument(rt, streams, asked, 4, false, hub)
         }
     }
 }
 
 // A script on a hub, with a word for how it starts, or a trace, which says both itself.
-fn answer_words(asked: Asked, words: usize) -> Status {
+fn answer_words(
+    rt: &(impl Files<File = fs::File> + RandomSource + Env),
+    streams: Streams,
+    asked: Asked,
+    words: usize,
+) -> Status {
     if words == 3 {
         let hub = HubStart {
             address: 0x08,
             start: PowerUp::Boot,
         };
-        return answer_argument(asked, 2, true, hub);
+        return answer_argument(rt, streams, asked, 2, true, hub);
     }
     let mut word = io::buffer();
-    let length = os::arg(2, &mut word);
+    let length = arguments::word_or_none(rt, 2, &mut word);
     if check::same(&word[..length], b"board") {
-        return answer_script(asked, PowerUp::Boot);
+        return answer_script(rt, streams, asked, PowerUp::Boot);
     }
     if check::same(&word[..length], b"sheet") {
-        return answer_script(asked, PowerUp::Reset);
+        return answer_script(rt, streams, asked, PowerUp::Reset);
     }
     say_use()
 }
@@ -234,27 +284,37 @@ fn say_use() -> Status {
 }
 
 // The program's work, by the words that it was given.
-fn run(word: &[u8], words: usize) -> Status {
+fn run(
+    rt: &(impl Files<File = fs::File> + RandomSource + Env),
+    streams: Streams,
+    word: &[u8],
+    words: usize,
+) -> Status {
     if words == 3 || words == 5 {
         if check::same(word, b"show") {
-            return answer_words(Asked::Show, words);
+            return answer_words(rt, streams, Asked::Show, words);
         }
         if check::same(word, b"check") {
-            return answer_words(Asked::Check, words);
+            return answer_words(rt, streams, Asked::Check, words);
         }
         if check::same(word, b"json") {
-            return answer_words(Asked::ShowObject, words);
+            return answer_words(rt, streams, Asked::ShowObject, words);
         }
         if check::same(word, b"check-json") {
-            return answer_words(Asked::CheckObject, words);
+            return answer_words(rt, streams, Asked::CheckObject, words);
         }
     }
     say_use()
 }
 
-fn main() {
+fn main(rt: HostRuntime) {
+    let streams = Streams {
+        stdin: rt.stdin(),
+        stdout: rt.stdout(),
+    };
     let mut word = io::buffer();
-    let length = os::arg(1, &mut word);
-    let status = run(&word[..length], os::arg_count());
+    let length = arguments::word_or_none(&rt, 1, &mut word);
+    let words = arguments::count(&rt);
+    let status = run(&rt, streams, &word[..length], words);
     console::status::tell(status);
 }

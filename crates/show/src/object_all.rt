@@ -7,15 +7,16 @@ use hub::Hub;
 use object::ended;
 use origins::RegistersWithOrigins;
 use page::{Listed, Pen};
+use std::io::Stdout;
 use words::kinds::Kind;
 
-fn of_kind(reading: Reading, path: &[u8], kind: Kind, list: Listed) -> Listed {
+fn of_kind(reading: Reading<'_>, path: &[u8], kind: Kind, list: Listed) -> Listed {
     reading::tell(reading, path, Task::Object(kind), list)
 }
 
 // The findings that are wrong or meant: replaced, same-channel, same-address, no-port and not-set-up.
 fn wrong_or_meant(
-    reading: Reading,
+    reading: Reading<'_>,
     path: &[u8],
     hub: Hub,
     state: RegistersWithOrigins,
@@ -29,7 +30,7 @@ fn wrong_or_meant(
 }
 
 // The notes that are found at a write.
-fn notes(reading: Reading, path: &[u8], list: Listed) -> Listed {
+fn notes(reading: Reading<'_>, path: &[u8], list: Listed) -> Listed {
     let twice = of_kind(reading, path, Kind::PortTwice, list);
     let shared = of_kind(reading, path, Kind::SharedInBlock, twice);
     let not_followed = of_kind(reading, path, Kind::NotFollowed, shared);
@@ -39,10 +40,16 @@ fn notes(reading: Reading, path: &[u8], list: Listed) -> Listed {
 }
 
 // Up to the findings.
-fn begin(given: HubStart, facts: Facts, hub: Hub, state: RegistersWithOrigins) -> Listed {
+fn begin(
+    out: Stdout,
+    given: HubStart,
+    facts: Facts,
+    hub: Hub,
+    state: RegistersWithOrigins,
+) -> Listed {
     let start = given.start;
     let begun = object::begin(
-        page::start(),
+        page::start(out),
         given.address,
         start,
         facts.writes,
@@ -53,11 +60,11 @@ fn begin(given: HubStart, facts: Facts, hub: Hub, state: RegistersWithOrigins) -
     page::new_list(object::begin_findings(addresses))
 }
 
-pub(crate) fn print(reading: Reading, path: &[u8], facts: Facts) -> Pen {
+pub(crate) fn print(reading: Reading<'_>, path: &[u8], facts: Facts) -> Pen {
     let hub = facts.hub;
     let state = facts.state;
     let given = reading.hub;
-    let begun = begin(given, facts, hub, state);
+    let begun = begin(reading.out, given, facts, hub, state);
     let wrong = wrong_or_meant(reading, path, hub, state, begun);
     let noted = notes(reading, path, wrong);
     let told = ended::no_address(noted, hub, state);

@@ -1,22 +1,24 @@
 // A script or a trace that is not taken, in words.
 use crate::source;
 use crate::source::Source;
+use console::opened::Opened;
 use console::say;
 use console::say::Command;
 use console::status::Status;
+use std::io::{Error, Result};
 use tracewrites::TraceRefusal;
 
-fn unwritten(command: Command) -> Status {
-    say::failed(command, b"cannot write the output");
+fn unwritten(command: Command, error: Error) -> Status {
+    say::failed(command, b"cannot write the output", error);
     Status::Failed
 }
 
 // The number of a trace's refusal, after that of its record where it has one.
-fn trace_refusal(record: u64, number: u64) -> bool {
+fn trace_refusal(rt: &impl Print, record: u64, number: u64) -> Result<()> {
     if record == 0 {
-        return say::refusal(number);
+        return say::refusal(rt, number);
     }
-    say::refusal_at(record, number)
+    say::refusal_at(rt, record, number)
 }
 
 // Why the trace is not taken. A file that does not begin as a trace may be a script.
@@ -47,12 +49,12 @@ fn say_why(command: Command, refusal: TraceRefusal, record: u64, first: u8) {
 }
 
 // The refused record stands at the buffer's start.
-pub(crate) fn trace(command: Command, source: Source, buffer: &[u8]) -> Status {
+pub(crate) fn trace(rt: &impl Print, command: Command, source: Source, buffer: &[u8]) -> Status {
     let file = source.trace;
     let refusal = file.refusal;
     let record = tracewrites::refused_record(file);
-    if !trace_refusal(record, source::refusal_number(source) as u64) {
-        return unwritten(command);
+    if let Err(error) = trace_refusal(rt, record, source::refusal_number(source) as u64) {
+        return unwritten(command, error);
     }
     say_why(command, refusal, record, buffers::byte_at(buffer, 0));
     Status::Refused
@@ -60,8 +62,9 @@ pub(crate) fn trace(command: Command, source: Source, buffer: &[u8]) -> Status {
 
 // The refused line stands at the buffer's start; all refused lines are named.
 pub(crate) fn script(
+    rt: &impl Print,
     command: Command,
-    fd: i32,
+    from: &Opened,
     path: &[u8],
     source: Source,
     buffer: &mut [u8],
@@ -69,10 +72,10 @@ pub(crate) fn script(
     let file = source.script;
     let run = file.run;
     let line = scriptlines::refused_line(run);
-    if !say::refusal_at(line, source::refusal_number(source) as u64) {
-        return unwritten(command);
+    if let Err(error) = say::refusal_at(rt, line, source::refusal_number(source) as u64) {
+        return unwritten(command, error);
     }
     let mut records = io::buffer();
-    refusedlines::name_all(command, fd, path, file, buffer, &mut records);
+    refusedlines::name_all(command, from, path, file, buffer, &mut records);
     Status::Refused
 }

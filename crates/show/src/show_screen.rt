@@ -8,13 +8,14 @@ use origins::RegistersWithOrigins;
 use page::Pen;
 use screens::bus::Lost;
 use screens::{bus, clash_list, closing, pictures, title};
+use std::io::Stdout;
 use words::kinds::Kind;
 use words::numbers;
 
 // What was run.
-fn begin(given: HubStart, path: &[u8], facts: Facts) -> Pen {
+fn begin(out: Stdout, given: HubStart, path: &[u8], facts: Facts) -> Pen {
     let start = given.start;
-    let named = title::file_on_hub(page::start(), path, given.address, start);
+    let named = title::file_on_hub(page::start(out), path, given.address, start);
     title::writes(named, facts::write_counts(facts))
 }
 
@@ -26,7 +27,7 @@ fn tables(pen: Pen, is_trace: bool, hub: Hub, state: RegistersWithOrigins, lost:
 }
 
 // What the model cannot say, with the numbers of the writes that it does not follow.
-fn limits(reading: Reading, path: &[u8], pen: Pen, not_followed: u64) -> Pen {
+fn limits(reading: Reading<'_>, path: &[u8], pen: Pen, not_followed: u64) -> Pen {
     let begun = closing::limits(pen, reading.file.is_trace, not_followed);
     if not_followed == 0 {
         return begun;
@@ -35,10 +36,10 @@ fn limits(reading: Reading, path: &[u8], pen: Pen, not_followed: u64) -> Pen {
     numbers::end(reading::tell(reading, path, task, page::new_list(begun)))
 }
 
-pub(crate) fn print(reading: Reading, path: &[u8], facts: Facts) -> Pen {
+pub(crate) fn print(reading: Reading<'_>, path: &[u8], facts: Facts) -> Pen {
     let is_trace = reading.file.is_trace;
     let given = reading.hub;
-    let begun = begin(given, path, facts);
+    let begun = begin(reading.out, given, path, facts);
     let told = tables(begun, is_trace, facts.hub, facts.state, facts.lost);
     let counts = facts::write_counts(facts);
     let ordered = closing::order(told, is_trace, facts.any_order, counts);

@@ -1,6 +1,7 @@
 // The register writes of a script or a trace, one after another, from an open file.
 use console::input;
 use console::input::Read;
+use console::opened::Opened;
 use console::say::Command;
 use registers::power_up::PowerUp;
 use scriptlines::ScriptFile;
@@ -140,7 +141,7 @@ fn trace_turn(source: Source, got: usize, buffer: &mut [u8], values: &mut [u8]) 
 // Reads on.
 pub(crate) fn turn(
     command: Command,
-    fd: i32,
+    from: &Opened,
     path: &[u8],
     source: Source,
     buffer: &mut [u8],
@@ -152,7 +153,7 @@ pub(crate) fn turn(
     if source.is_trace {
         window = trace.window;
     }
-    match input::read_on(command, fd, path, window, buffer) {
+    match input::read_on(command, from, path, window, buffer) {
         Read::Failed => SourceTurn {
             source,
             next: Next::Nothing,

@@ -67,7 +67,7 @@ fn count_at(list: Listed, kind: Kind, found: Found) -> Listed {
 }
 
 // The heading of a port that is selected again: a thing of its own for the first such port of a block.
-fn name_port(list: Listed, file: File, before: Block, port: u8) -> Listed {
+fn name_port(list: Listed, file: File<'_>, before: Block, port: u8) -> Listed {
     let first = block::earlier_of(before, port);
     if before.replaced != 0 {
         let pen = things::selected_too(list, file, port, first);
@@ -80,7 +80,7 @@ fn name_port(list: Listed, file: File, before: Block, port: u8) -> Listed {
 }
 
 // A register of a port that is replaced, on the screen.
-fn screen_replaced(told: Told, file: File, found: Found, port: u8, origin: u64) -> Told {
+fn screen_replaced(told: Told, file: File<'_>, found: Found, port: u8, origin: u64) -> Told {
     let before = told.block;
     let mut next = told;
     let mut list = told.list;
@@ -110,7 +110,7 @@ fn screen_replaced(told: Told, file: File, found: Found, port: u8, origin: u64) 
     next
 }
 
-fn again_port(told: Told, file: File, found: Found, port: u8) -> Told {
+fn again_port(told: Told, file: File<'_>, found: Found, port: u8) -> Told {
     let origin = found::replaced_at(found, port);
     if origin == 0 {
         return told;
@@ -129,7 +129,7 @@ fn select(told: Told, found: Found) -> Told {
 }
 
 // A port that the block selects again, and of which it replaces nothing.
-fn too_port(list: Listed, file: File, over: Block, port: u8) -> Listed {
+fn too_port(list: Listed, file: File<'_>, over: Block, port: u8) -> Listed {
     let first = block::earlier_of(over, port);
     if first == 0 || bits::is_set(over.replaced, port) {
         return list;
@@ -142,7 +142,7 @@ fn too_port(list: Listed, file: File, over: Block, port: u8) -> Listed {
 }
 
 // The block is over: where it replaced something, its other ports that were selected before are told too.
-fn end_block(told: Told, file: File) -> Told {
+fn end_block(told: Told, file: File<'_>) -> Told {
     let over = told.block;
     if over.replaced == 0 {
         return told;
@@ -153,7 +153,7 @@ fn end_block(told: Told, file: File) -> Told {
     told::with_list(told, too_port(port_2, file, over, 3))
 }
 
-fn again_at(told: Told, file: File, found: Found) -> Told {
+fn again_at(told: Told, file: File<'_>, found: Found) -> Told {
     if found::is_selection(found) {
         return select(end_block(told, file), found);
     }
@@ -206,7 +206,7 @@ fn numbers_at(told: Told, kind: Kind, found: Found) -> Told {
     }
 }
 
-fn no_port_at(list: Listed, before: u64, file: File, found: Found) -> Listed {
+fn no_port_at(list: Listed, before: u64, file: File<'_>, found: Found) -> Listed {
     if found.no_port {
         return things::no_port(list, before, file, found.write.offset, found.write.number);
     }
@@ -221,7 +221,7 @@ fn odd_alias_at(list: Listed, is_trace: bool, found: Found) -> Listed {
 }
 
 // What the task asks for at the write that comes next.
-pub(crate) fn at_write(task: Task, file: File, told: Told, found: Found) -> Told {
+pub(crate) fn at_write(task: Task, file: File<'_>, told: Told, found: Found) -> Told {
     let list = told.list;
     match task {
         Task::Survey => survey::at_write(told, found),
@@ -235,7 +235,7 @@ pub(crate) fn at_write(task: Task, file: File, told: Told, found: Found) -> Told
 }
 
 // After the last write.
-pub(crate) fn at_end(job: Job, told: Told) -> Told {
+pub(crate) fn at_end(job: Job<'_>, told: Told) -> Told {
     let task = job.task;
     match task {
         Task::Again => end_block(told, job.file),

@@ -31,9 +31,9 @@ pub(crate) struct HubStart {
 
 // The task, the file, and the extent of all writes.
 #[derive(Clone, Copy)]
-pub(crate) struct Job {
+pub(crate) struct Job<'a> {
     pub task: Task,
-    pub file: File,
+    pub file: File<'a>,
     pub whole: Extent,
 }
 

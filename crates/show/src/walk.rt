@@ -53,7 +53,7 @@ fn say_alive(command: Command, writes: u64) {
 }
 
 // One write more.
-fn take_write(command: Command, job: Job, run: Run, write: Write) -> Run {
+fn take_write(command: Command, job: Job<'_>, run: Run, write: Write) -> Run {
     say_alive(command, run.writes);
     let before = run.known;
     let task = job.task;
@@ -73,7 +73,7 @@ fn take_write(command: Command, job: Job, run: Run, write: Write) -> Run {
 // The writes of one number, at successive offsets.
 fn take_writes(
     command: Command,
-    job: Job,
+    job: Job<'_>,
     run: Run,
     number: u64,
     first: u8,
@@ -96,7 +96,7 @@ fn take_writes(
 }
 
 // What a turn gave.
-fn take(command: Command, job: Job, run: Run, came: Next, values: &[u8]) -> Run {
+fn take(command: Command, job: Job<'_>, run: Run, came: Next, values: &[u8]) -> Run {
     let mut next = run;
     match came {
         Next::Nothing => next,
@@ -118,13 +118,13 @@ fn take(command: Command, job: Job, run: Run, came: Next, values: &[u8]) -> Run 
 // Reads on, and takes what came.
 fn take_turn(
     command: Command,
-    job: Job,
+    job: Job<'_>,
     path: &[u8],
     walk: Walk,
     buffer: &mut [u8],
     values: &mut [u8],
 ) -> Walk {
-    let turn = source::turn(command, job.file.fd, path, walk.source, buffer, values);
+    let turn = source::turn(command, job.file.opened, path, walk.source, buffer, values);
     let source = turn.source;
     let came = turn.next;
     let run = take(command, job, walk.run, came, values);
@@ -139,7 +139,7 @@ fn take_turn(
 // Goes through the file. The turns are counted down, from a number that no file uses up.
 fn take_all(
     command: Command,
-    job: Job,
+    job: Job<'_>,
     path: &[u8],
     begun: Walk,
     buffer: &mut [u8],
@@ -157,7 +157,7 @@ fn take_all(
 // Goes through the file from its start, on that hub unless the file has another.
 pub(crate) fn through(
     command: Command,
-    job: Job,
+    job: Job<'_>,
     path: &[u8],
     hub: HubStart,
     told: Told,
@@ -165,8 +165,8 @@ pub(crate) fn through(
     values: &mut [u8],
 ) -> Walk {
     let begun = begin(job.file.is_trace, hub, told);
-    if libc::lseek(job.file.fd, job.file.start, libc::SEEK_SET) < 0 {
-        input::say_unread(command, path);
+    if let Err(error) = job.file.opened.go_to(job.file.start) {
+        input::say_unread(command, path, error);
         return failed(begun);
     }
     take_all(command, job, path, begun, buffer, values)
