@@ -62,8 +62,7 @@ fn say_seven_bits(address: u8) {
 // Says that no hub has the address.
 pub fn refuse(rt: &impl Print, command: Command, address: u8, number: u8) -> Status {
     if let Err(error) = say::refusal(rt, number as u64) {
-        say::failed(command, b"cannot write the output", error);
-        return Status::Failed;
+        return say::unwritten(command, b"cannot write the output", error);
     }
     say::words(
         command,

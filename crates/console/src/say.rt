@@ -1,6 +1,7 @@
 // What a program says: words on standard error, after the command that was typed; refusals on standard output.
+use crate::status::Status;
 use crate::{reason, shown};
-use std::io::{Error, Print, Result};
+use std::io::{Error, ErrorKind, Print, Result};
 
 // The descriptor of standard error.
 pub const STDERR_FILENO: i32 = 2;
@@ -69,6 +70,15 @@ pub fn file_failed(command: Command, what: &[u8], path: &[u8], error: Error) {
     words(command, what);
     shown::name(path);
     reason::say(b"", error);
+}
+
+// Standard output cannot be written: says what failed, and why; nothing where nobody reads it any more.
+pub fn unwritten(command: Command, what: &[u8], error: Error) -> Status {
+    if error.kind() == ErrorKind::BrokenPipe {
+        return Status::Unread;
+    }
+    failed(command, what, error);
+    Status::Failed
 }
 
 // A refusal's number.

@@ -13,6 +13,7 @@ use console::status::Status;
 use registers::power_up::PowerUp;
 use std::fs::File;
 use std::io::Stdin;
+use std::process::ExitCode;
 use std::random::RandomSource;
 use std::rt::{Env, Files};
 
@@ -78,10 +79,10 @@ fn convert(
     say_use()
 }
 
-fn main(rt: HostRuntime) {
+fn main(rt: HostRuntime) -> ExitCode {
     let mut word = io::buffer();
     let length = arguments::word_or_none(&rt, 1, &mut word);
     let words = arguments::count(&rt);
     let status = convert(&rt, rt.stdin(), &word[..length], words);
-    console::status::tell(status);
+    console::status::tell(status)
 }

@@ -104,10 +104,7 @@ fn write_line(rt: &impl Print, address: u8, start: PowerUp) -> Result<()> {
 fn print(rt: &impl Print, command: Command, address: u8, start: PowerUp) -> Status {
     match write_line(rt, address, start) {
         Ok(()) => Status::Done,
-        Err(error) => {
-            say::failed(command, b"cannot write the output", error);
-            Status::Failed
-        }
+        Err(error) => say::unwritten(command, b"cannot write the output", error),
     }
 }
 
@@ -128,8 +125,7 @@ fn say_why(command: Command, refusal: TraceRefusal) {
 
 fn refuse(rt: &impl Print, command: Command, refusal: TraceRefusal) -> Status {
     if let Err(error) = say::refusal(rt, tracewrites::refusal_number(refusal) as u64) {
-        say::failed(command, b"cannot write the output", error);
-        return Status::Failed;
+        return say::unwritten(command, b"cannot write the output", error);
     }
     say_why(command, refusal);
     Status::Refused

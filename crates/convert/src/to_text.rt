@@ -8,31 +8,28 @@ use console::input::Read;
 use console::opened::Opened;
 use console::say::Command;
 use console::status::Status;
-use console::{again, arguments, input, say};
+use console::{again, arguments, input, say, status};
 use std::fs::File;
 use std::io::Stdin;
 use std::random::RandomSource;
 use std::rt::{Env, Files};
 use tracetext::{TextFile, TextRefusal, TextRun};
 
-// How far the trace is read: the trace, whether nothing is left to do, and whether a file failed.
+// How far the trace is read: the trace, whether nothing is left to do, and the status, done unless a file failed.
 #[derive(Clone, Copy)]
 struct Progress {
     file: TextFile,
     over: bool,
-    failed: bool,
+    status: Status,
 }
 
-// Writes the first bytes of the text, or says that they cannot be written.
-fn write_text(rt: &impl Print, command: Command, text: &[u8], end: usize) -> bool
+// Writes the first bytes of the text, or says that they cannot be written; done where they were.
+fn write_text(rt: &impl Print, command: Command, text: &[u8], end: usize) -> Status
     requires { end ≤ length text.now }
 {
     match rt.write_all(&text[0..end]) {
-        Ok(()) => true,
-        Err(error) => {
-            say::failed(command, b"cannot write the text", error);
-            false
-        }
+        Ok(()) => Status::Done,
+        Err(error) => say::unwritten(command, b"cannot write the text", error),
     }
 }
 
@@ -51,26 +48,19 @@ fn take_turn(
         Read::Failed => Progress {
             file,
             over: true,
-            failed: true,
+            status: Status::Failed,
         },
         Read::Got(got) => {
             let turn = tracetext::turn(file, got, buffer, text);
             let after = turn.file;
-            let mut written = true;
+            let mut status = Status::Done;
             if print {
-                written = write_text(rt, command, text, turn.end);
-            }
-            if written {
-                return Progress {
-                    file: after,
-                    over: turn.done,
-                    failed: false,
-                };
+                status = write_text(rt, command, text, turn.end);
             }
             Progress {
                 file: after,
-                over: true,
-                failed: true,
+                over: turn.done || !status::is_done(status),
+                status,
             }
         }
     }
@@ -94,7 +84,7 @@ fn take_all(
     let mut progress = Progress {
         file,
         over: false,
-        failed: false,
+        status: Status::Done,
     };
     let mut turns = u64::MAX;
     while turns > 0 && !progress.over {
@@ -133,8 +123,7 @@ fn say_why(command: Command, run: TextRun, refusal: TextRefusal) {
 
 fn refuse(rt: &impl Print, command: Command, run: TextRun, refusal: TextRefusal) -> Status {
     if let Err(error) = say::refusal(rt, tracetext::refusal_number(refusal) as u64) {
-        say::failed(command, b"cannot write the output", error);
-        return Status::Failed;
+        return say::unwritten(command, b"cannot write the output", error);
     }
     say_why(command, run, refusal);
     Status::Refused
@@ -142,7 +131,10 @@ fn refuse(rt: &impl Print, command: Command, run: TextRun, refusal: TextRefusal)
 
 // Done where the whole trace was read and has a text; says why it has none.
 fn ending(rt: &impl Print, command: Command, progress: Progress) -> Status {
-    if progress.failed || !progress.over {
+    if !status::is_done(progress.status) {
+        return progress.status;
+    }
+    if !progress.over {
         return Status::Failed;
     }
     let file = progress.file;
@@ -183,6 +175,7 @@ fn convert(rt: &impl Print, command: Command, from: &Again, path: &[u8]) -> Stat
         Status::Done => print(rt, command, from, path, &mut buffer, &mut text),
         Status::Refused => Status::Refused,
         Status::Failed => Status::Failed,
+        Status::Unread => Status::Unread,
     }
 }
 

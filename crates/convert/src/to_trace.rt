@@ -142,8 +142,7 @@ fn refuse(
     let line = scriptlines::refused_line(run);
     let number = scriptlines::refusal_number(refusal);
     if let Err(error) = say::refusal_at(rt, line, number as u64) {
-        say::failed(command, b"cannot write the output", error);
-        return Status::Failed;
+        return say::unwritten(command, b"cannot write the output", error);
     }
     refusedlines::name_all(command, from, script, file, buffer, records);
     Status::Refused
@@ -200,7 +199,7 @@ fn convert(
     let progress = take_all(command, from, script, &to, out, &mut buffer, &mut records);
     match ending(progress) {
         Status::Done => keep(rt, command, progress, to, out, name),
-        Status::Failed => {
+        Status::Failed | Status::Unread => {
             part::discard(rt, to, name);
             Status::Failed
         }

@@ -9,6 +9,7 @@ use console::status::Status;
 use console::{arguments, input, say};
 use std::fs::File;
 use std::io::Stdin;
+use std::process::ExitCode;
 use std::rt::{Env, Files};
 
 // Plays the file with that name.
@@ -58,10 +59,10 @@ fn play_as(
     Status::Failed
 }
 
-fn main(rt: HostRuntime) {
+fn main(rt: HostRuntime) -> ExitCode {
     let mut word = io::buffer();
     let length = arguments::word_or_none(&rt, 1, &mut word);
     let words = arguments::count(&rt);
     let status = play_as(&rt, rt.stdin(), &word[..length], words);
-    console::status::tell(status);
+    console::status::tell(status)
 }

@@ -9,7 +9,7 @@ use console::input::Read;
 use console::opened::Opened;
 use console::say::Command;
 use console::status::Status;
-use console::{input, say};
+use console::{input, say, status};
 use playback::Session;
 use turns::FileRun;
 
@@ -19,24 +19,21 @@ const COUNTS_ROOM: usize = 64;
 // The first byte of every record.
 const RECORD_MARK: u8 = 0x9A;
 
-// Where the program stands: the run, whether it is over, and whether a file failed.
+// Where the program stands: the run, whether it is over, and the status, done unless a file failed.
 #[derive(Clone, Copy)]
 struct Step {
     run: FileRun,
     over: bool,
-    failed: bool,
+    status: Status,
 }
 
-// Writes the text up to its end, or says that it cannot be written.
-fn write_out(rt: &impl Print, command: Command, text: &[u8], end: usize) -> bool
+// Writes the text up to its end, or says that it cannot be written; done where it was.
+fn write_out(rt: &impl Print, command: Command, text: &[u8], end: usize) -> Status
     requires { end ≤ length text.now }
 {
     match rt.write_all(&text[0..end]) {
-        Ok(()) => true,
-        Err(error) => {
-            say::failed(command, b"cannot write the output", error);
-            false
-        }
+        Ok(()) => Status::Done,
+        Err(error) => say::unwritten(command, b"cannot write the output", error),
     }
 }
 
@@ -50,13 +47,13 @@ fn put_counts(session: Session, text: &mut [u8]) -> usize
 }
 
 // Writes the last line.
-fn write_counts(rt: &impl Print, command: Command, session: Session) -> bool {
+fn write_counts(rt: &impl Print, command: Command, session: Session) -> Status {
     let mut text = [0u8; COUNTS_ROOM];
     let end = put_counts(session, &mut text);
     write_out(rt, command, &text, end)
 }
 
-// Writes the text of a turn and, where nothing is left to play, the last line; answers whether it was written.
+// Writes the text of a turn and, where nothing is left to play, the last line; done where it was written.
 fn write_text(
     rt: &impl Print,
     command: Command,
@@ -64,16 +61,14 @@ fn write_text(
     end: usize,
     session: Session,
     done: bool,
-) -> bool
+) -> Status
     requires { end ≤ length text.now }
 {
-    if !write_out(rt, command, text, end) {
-        return false;
-    }
-    if done {
+    let written = write_out(rt, command, text, end);
+    if done && status::is_done(written) {
         return write_counts(rt, command, session);
     }
-    true
+    written
 }
 
 // Reads, plays a turn, and writes its text.
@@ -91,17 +86,17 @@ fn take_turn(
         Read::Failed => Step {
             run,
             over: true,
-            failed: true,
+            status: Status::Failed,
         },
         Read::Got(got) => {
             let turn = turns::turn(run, got, buffer, packets, out);
             let after = turn.run;
             let session = after.session;
-            let written = write_text(rt, command, out, turn.end, session, turn.done);
+            let status = write_text(rt, command, out, turn.end, session, turn.done);
             Step {
                 run: after,
-                over: turn.done || !written,
-                failed: !written,
+                over: turn.done || !status::is_done(status),
+                status,
             }
         }
     }
@@ -126,7 +121,7 @@ fn play_all(
     let mut step = Step {
         run,
         over: false,
-        failed: false,
+        status: Status::Done,
     };
     let mut turns = u64::MAX;
     while turns > 0 && !step.over {
@@ -166,7 +161,10 @@ fn say_ended(command: Command, session: Session, first: u8) {
 
 // How the run ended: done only where the file was played to its end.
 fn ending(command: Command, step: Step, first: u8) -> Status {
-    if step.failed || !step.over {
+    if !status::is_done(step.status) {
+        return step.status;
+    }
+    if !step.over {
         return Status::Failed;
     }
     let run = step.run;

@@ -30,6 +30,7 @@ use registers::power_up::PowerUp;
 use source::Source;
 use std::fs;
 use std::io::{Stdin, Stdout};
+use std::process::ExitCode;
 use std::random::RandomSource;
 use std::rt::{Env, Files};
 use told::HubStart;
@@ -73,10 +74,10 @@ fn print(asked: Asked, reading: Reading<'_>, path: &[u8], facts: Facts) -> Pen {
 // The status of what was printed: for check something that looks wrong counts as a refusal.
 fn status_of(asked: Asked, command: Command, pen: Pen, wrong: u64) -> Status {
     if !pen.ok {
-        if !pen.said {
-            say::failed(command, b"cannot write the output", page::failure(pen));
+        if pen.said {
+            return Status::Failed;
         }
-        return Status::Failed;
+        return say::unwritten(command, b"cannot write the output", page::failure(pen));
     }
     if wrong == 0 {
         return Status::Done;
@@ -89,8 +90,11 @@ fn status_of(asked: Asked, command: Command, pen: Pen, wrong: u64) -> Status {
     }
 }
 
-// A script or a trace that was not taken: for check that is status 2.
+// A script or a trace that was not taken: for check that is status 2, but where nobody reads it.
 fn not_taken(asked: Asked, status: Status) -> Status {
+    if let Status::Unread = status {
+        return status;
+    }
     match asked {
         Asked::Show => status,
         Asked::ShowObject => status,
@@ -307,7 +311,7 @@ fn run(
     say_use()
 }
 
-fn main(rt: HostRuntime) {
+fn main(rt: HostRuntime) -> ExitCode {
     let streams = Streams {
         stdin: rt.stdin(),
         stdout: rt.stdout(),
@@ -316,5 +320,5 @@ fn main(rt: HostRuntime) {
     let length = arguments::word_or_none(&rt, 1, &mut word);
     let words = arguments::count(&rt);
     let status = run(&rt, streams, &word[..length], words);
-    console::status::tell(status);
+    console::status::tell(status)
 }

@@ -45,8 +45,11 @@ fn told_at_end(job: Job<'_>, run: Run) -> Told {
     telling::at_end(job, run.told)
 }
 
-// Another way, which goes on with a list.
+// Another way, which goes on with a list; none where it cannot be written any more.
 pub(crate) fn tell(reading: Reading<'_>, path: &[u8], task: Task, list: Listed) -> Listed {
+    if !list.pen.ok {
+        return list;
+    }
     let command = reading.command;
     let file = reading.file;
     let whole = reading.whole;

@@ -9,8 +9,7 @@ use std::io::{Error, Result};
 use tracewrites::TraceRefusal;
 
 fn unwritten(command: Command, error: Error) -> Status {
-    say::failed(command, b"cannot write the output", error);
-    Status::Failed
+    say::unwritten(command, b"cannot write the output", error)
 }
 
 // The number of a trace's refusal, after that of its record where it has one.
