@@ -1,6 +1,6 @@
--- A writer's answer as a number, and that the number of every answer is unambiguous.
+-- The number of every answer is unambiguous.
 -- Assumes nothing.
-use mathlib.Core.Path.{◌≡◌, refl, ap, ◌∙◌}
+use mathlib.Core.Path.{◌≡◌, refl, ap}
 use mathlib.Core.Bool.{Bool, true, false, cond}
 use mathlib.Core.List.{List}
 use Prim.Native.Nat.{ℕ, ◌+◌, ◌*◌, ◌/◌, ◌%◌, ◌^◌, ◌≤◌, ◌<◌}
@@ -12,7 +12,7 @@ use lib.Dec.{ltb}
 use lib.ListN.{length, drop}
 use lib.Pow.{pow-lt}
 use Rattle.laws.specs.Reply.{Reply, refused, refused_with, given, on_reply, and_then}
-use Rattle.laws.specs.Buffers.{Writes, has_room, if_room, count_of}
+use Rattle.laws.specs.Buffers.{has_room, if_room, count_of}
 use Rattle.laws.proofs.Replies.{room_by}
 use Rattle.formats.specs.declared.Format.{Format}
 use Rattle.formats.specs.Formats.{format_of}
@@ -36,13 +36,9 @@ use Rattle.csi2.specs.Packets.{is_short}
 use Rattle.csi2.specs.Writers.{packet_reply, pixel_line_reply}
 use Rattle.csi2.proofs.WriterLaws.{length-packet}
 use Rattle.reader.specs.Reader.{Packet, header_number, header_packet, checksum_matches, read_body, read_packet}
-use Rattle.exports.specs.Numbers.{reply_number, WritesNumber, corrected_number, correction_number, packet_number}
+use Rattle.exports.specs.Numbers.{corrected_number, correction_number, packet_number}
 use Rattle.exports.specs.Numbers.{corrected_of_number, correction_of_number, packet_of_number}
 use Rattle.exports.specs.Numbers.{InBounds, Unambiguous, NumbersUnambiguous}
-
-pub numbered : {before : List ℕ} {place : ℕ} {reply : Reply (List ℕ)} {told : Reply ℕ} {number : ℕ} {after : List ℕ} → Writes before place reply told after
-    → number ≡ reply_number told → WritesNumber before place reply number after
-numbered wrote e = record { answer = e ∙ ap reply_number wrote.answer; buffer = wrote.buffer }
 
 -- what holds of both answers of a test holds of its answer
 either : {A : Type 0} (P : A → Type 0) (b : Bool) {x y : A} → P x → P y → P (cond b x y)
