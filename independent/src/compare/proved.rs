@@ -4,7 +4,7 @@
 #![allow(unsafe_code)]
 
 // SAFETY: the names and the C types are those of the functions that the crate `exports` marks
-// `#[no_mangle] pub extern "C"`. The two marked safe take and give numbers alone.
+// `#[unsafe(no_mangle)] pub extern "C"`. The two marked safe take and give numbers alone.
 unsafe extern "C" {
     safe fn loopcinder_check_byte(word: u32) -> u8;
     safe fn loopcinder_correct_header(header: u32) -> u64;
