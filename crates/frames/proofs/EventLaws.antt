@@ -1,12 +1,8 @@
 -- Laws of frame events: a port with no open frame, a packet on a route, an event that is refused, dropped or sent, and what no event changes.
 -- Assumes nothing.
 use mathlib.Core.Path.{◌≡◌, refl, ap, ◌∙◌}
-use mathlib.Core.List.{List, [], ◌∷◌}
-use mathlib.Core.Logic.{⊎_elim}
+use mathlib.Core.List.{List}
 use Prim.Native.Nat.{ℕ, ◌≤◌}
-use native.Mathlib.Omega.{arith}
-use denote.Enum.Declared.{tag_of}
-use types.Run.{OneOf}
 use Rattle.laws.specs.Reply.{Reply, refused, refused_with, given, on_reply}
 use Rattle.laws.specs.Buffers.{Writes, count_of, after_reply}
 use Rattle.formats.specs.declared.Format.{Format}
@@ -15,20 +11,19 @@ use Rattle.registers.specs.declared.RegisterFile.{RegisterFile}
 use Rattle.hub.specs.declared.Hub.{Hub}
 use Rattle.hub.specs.declared.LastFrame.{LastFrame}
 use Rattle.hub.specs.declared.LastFrame.TheVariants.{NoFrame, Closed, Open}
-use Rattle.hub.specs.contracts.LastFrame.{the_type}
 use Rattle.hub.specs.Routes.{PortRoute, port_route, route_of}
 use Rattle.hub.proofs.Routes.{route_given}
 use Rattle.frames.specs.Events.{start_event, pixel_line_event, end_event, last_frame, Outcome, dropped, sent, forward_on, if_open}
 use Rattle.frames.specs.Events.{opened_with, closed_with, unless_refused, hub_after, buffer_after}
 use Rattle.frames.specs.Events.{Answered, RefusalChangesNothing, EventsKeepRegisters}
 
--- a frame that the source finds in one of the first two cases of its type is not open
-pub if_closed : (last : LastFrame) → OneOf (0 ∷ 1 ∷ []) (tag_of the_type last) → {A : Type 0} (next : Format → ℕ → Reply A)
+-- a frame that the source does not find open
+pub if_closed : (last : LastFrame) → ((format : Format) (number : ℕ) → last ≡ Open format number → ⊥) → {A : Type 0} (next : Format → ℕ → Reply A)
     → if_open last next ≡ refused 4
 unfolding if_open
 if_closed NoFrame k next = refl
 if_closed (Closed format number) k next = refl
-if_closed (Open format number) k next = ⊎_elim (λ e. absurd (omega arith)) (λ e. absurd (omega arith)) k
+if_closed (Open format number) k next = absurd (k format number refl)
 
 -- what becomes of a packet, by the route that the source is told
 pub forward_by : (file : RegisterFile) (port : ℕ) → port ≤ 3 → {route : PortRoute} → given route ≡ route_of file port
