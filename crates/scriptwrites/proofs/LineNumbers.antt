@@ -62,6 +62,7 @@ module _ (number : ℕ) (line : List ℕ) (lines : List (List ℕ)) where
   -- a call of the line is its only one
   single : (here : List RegisterWrite) → IsScriptLine line here → (call : RegisterWrite) → Memᴰ call here
       → IsScriptLine line (call ∷ [])
+  single (only ∷ (_ ∷ _)) x6 call m = elim x6 [ ]
   single [] (blank b) call m = absurd (Memᴰ.not-nil m)
   single (only ∷ []) (called c) call m = rw (Memᴰ.eq_of_singleton m) (called c)
 

@@ -95,6 +95,7 @@ RisingFrom number parts writes = (before : ℕ) → before < number → Rising b
 rising_line : (number : ℕ) (part : List ℕ) (parts : List (List ℕ)) (here : List RegisterWrite) (later : List NumberedWrite) → IsScriptLine part here
     → RisingFrom (suc number) parts later → RisingFrom number (part ∷ parts) (numbered_as number here ++ later)
 unfolding numbered_as
+rising_line number part parts (call ∷ (_ ∷ _)) later x7 rises before h = elim x7 [ ]
 rising_line number part parts [] later (blank b) rises before h = rises before (omega arith)
 rising_line number part parts (call ∷ []) later (called c) rises before h = (h, rises number (omega arith))
 
