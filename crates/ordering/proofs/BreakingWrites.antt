@@ -1,7 +1,7 @@
 -- Where the blocks may not be run in any order a write breaks it, and a write that breaks it decides so.
 -- Assumes nothing.
 use Rattle.std.proofs.Common.{◌≡◌, ℕ, ◌<◌, Bool, true, false, cond, not, ◌&&◌, ◌⊎◌, List, [], ◌∷◌, ◌++◌, sym, refl, ap, ◌∙◌, inl, inr, append_assoc}
-use mathlib.Core.Bool.{and-true, and_false}
+use mathlib.Core.Bool.{and-true, and-false}
 use Rattle.laws.specs.Bits.{bit}
 use Rattle.laws.proofs.Absurd.{zero_not_one}
 use Rattle.laws.proofs.Bools.{both}
@@ -36,7 +36,7 @@ broken_after order w ws e =
     let phase = phase_after (kind w) order.phase in
     let ticks = ticks_after (kind w) order.ticks w.number w.value in
     ap (λ (b : Bool). (order_after (order_at b phase ticks) ws).any_order)
-    (ap (λ (b : Bool). order.any_order && b) e ∙ and_false order.any_order)
+    (ap (λ (b : Bool). order.any_order && b) e ∙ and-false order.any_order)
     ∙ stays_broken phase ticks ws
 
 -- the order after one write more

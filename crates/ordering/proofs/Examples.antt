@@ -31,6 +31,7 @@ starting : (block : List NumberedWrite) → Memᴰ block (pass_through_writes03 
 unfolding unnumbered_writes
 starting block (Memᴰ.head e) = rw e
 starting block (Memᴰ.tail (Memᴰ.head e)) = rw e
+starting block (Memᴰ.tail (Memᴰ.tail m)) = elim m [ ]
 
 setup_blocks : List Block
 setup_blocks = blocks_of (followed_each (pass_through_writes03 ∷ channel1 ∷ []))
@@ -39,6 +40,7 @@ formed : (block : Block) → Memᴰ block setup_blocks → IsSetupBlock block
 unfolding setup_blocks followed block_writes burst_writes kind_of mask_of per_port row_in rows
 formed block (Memᴰ.head e) = rw e (record { starts = refl; rest = (refl, tt) })
 formed block (Memᴰ.tail (Memᴰ.head e)) = rw e (record { starts = refl; rest = (refl, tt) })
+formed block (Memᴰ.tail (Memᴰ.tail m)) = elim m [ ]
 
 one_selects : ℕ → Bool
 one_selects port = leb (length (selecting port setup_blocks)) 1

@@ -152,7 +152,7 @@ unfolding write_each unnumbered_writes
 same_after a b s [] h = s
 same_after a b s (w ∷ ws) h =
     let next = same_step a b s w (shared_unpaged w.offset h.0).1 in
-    rw (after_shared a w ws h.0, after_shared b w ws h.0) (same_after _ _ next ws h.1)
+    rw (after_shared a w ws h.0, after_shared b w ws h.0) (same_after (write_shared a w.offset w.value) _ next ws h.1)
 
 -- blocks in two orders, from the same registers
 module _ (hub : Hub) (lengths : ArrayLengths hub) (blocks other : List (List NumberedWrite))
