@@ -1,0 +1,6 @@
+-- `printing::event::put_output` meets its contract: its pieces are put one after the other.
+use Rattle.buffers.proofs.PutLaws.{put_then_lem}
+use Rattle.printing.proofs.event.put_output.Goals as goal
+
+pub returns : goal.returns
+returns c = search put_then_lem

@@ -1,0 +1,6 @@
+-- `printing::register::put_write` meets its contract: its pieces are put one after the other.
+use Rattle.buffers.proofs.PutLaws.{put_then_lem}
+use Rattle.printing.proofs.register.put_write.Goals as goal
+
+pub returns : goal.returns
+returns c = search put_then_lem
