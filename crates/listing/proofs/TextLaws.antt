@@ -23,7 +23,7 @@ texts_join (call ∷ here) later =
 pub length-burst : (offset : ℕ) (values : List ℕ) → length (burst_writes offset values) ≡ length values
 unfolding burst_writes
 length-burst offset [] = refl
-length-burst offset (value ∷ values) = ap suc (length-burst _ values)
+length-burst offset (value ∷ values) = ap suc (length-burst (next_offset offset) values)
 
 -- the text of a burst from value i on: one line more, or none
 module _ (offset : ℕ) (values : List ℕ) (i : ℕ) where
