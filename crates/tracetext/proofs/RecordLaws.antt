@@ -121,7 +121,7 @@ module _ (last : Bool) (state : ListState) (may : may_list last state ≡ true) 
     refused_next : (refusal : TextRefusal) → to_come state.run (left ++ rest) ≡ refused_or refusal (given [])
         → is_text_refusal refusal ≡ true
         → ListsNext rest state (record { run = record { records = state.run.records; refusal = refusal }; left = left; out = state.out; at = state.at })
-    refused_next refusal e wrong =
+    refused_next new e wrong =
         record {
           text = [];
           stored = sym (written_nil state.out state.at);
