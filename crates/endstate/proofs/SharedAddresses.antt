@@ -35,6 +35,7 @@ module _ (state : RegistersWithOrigins) (number : ℕ) where
   aliases_every : (devices : List PortDevice) (device : PortDevice) → Memᴰ device devices
       → alias_origin state device ≡ number → Memᴰ number (alias_origins state devices)
   unfolding alias_origins
+  aliases_every [] device m e = elim m [ ]
   aliases_every (first ∷ devices) device (Memᴰ.head q) e =
       Memᴰ.head (sym e ∙ ap (alias_origin state) q)
   aliases_every (first ∷ devices) device (Memᴰ.tail m) e = Memᴰ.tail (aliases_every devices device m e)

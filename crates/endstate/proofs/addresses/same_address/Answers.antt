@@ -1,0 +1,9 @@
+-- `endstate::addresses::same_address` meets its contract.
+use Rattle.endstate.proofs.AddressLaws.{address_by}
+use Rattle.endstate.proofs.addresses.same_address.Goals as goal
+
+pub returns : goal.returns
+returns c =
+    let a = c.args in
+    address_by a.hub a.state a.address c.ports_of_address-ports.ensures c.aliases_that_match-gathered.ensures
+    c.shared_by.ensures
