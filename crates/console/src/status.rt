@@ -1,5 +1,5 @@
-// How a program ended. It writes this to descriptor 3, where the front door reads it, and ends with 0. A program that was
-// killed or is damaged writes none, so nothing but this passes for success.
+// How a program ended. It writes this to descriptor 3, where the front door reads it. A program that was killed or is
+// damaged writes none, so nothing but this passes for success.
 use std::process::ExitCode;
 
 const STATUS_FILENO: i32 = 3;

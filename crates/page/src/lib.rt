@@ -2,7 +2,7 @@
 // so contracts promise nothing of it.
 #![tactic(auto)]
 
-ghost use Rattle.std.specs.Prelude.{◌≡◌, ◌+◌, ◌%◌, ◌^◌, true, false, length};
+ghost use Rattle.std.specs.Prelude.{◌≡◌, ◌+◌, ◌%◌, ◌^◌, true, false, length, pos};
 
 use buffers::text::hex_digit;
 use std::io::{Error, Stdout};
@@ -33,7 +33,7 @@ pub struct Listed {
 
 // At the start of the page.
 pub fn start(out: Stdout) -> Pen
-    ensures { result ≡ record { out = out; ok = true; error = 0; said = false; column = 0 } }
+    ensures { result ≡ record { out = out; ok = true; error = pos 0; said = false; column = 0 } }
 {
     Pen {
         out,
@@ -46,7 +46,7 @@ pub fn start(out: Stdout) -> Pen
 
 // Nothing more is written, and it was said why.
 pub fn stopped(out: Stdout) -> Pen
-    ensures { result ≡ record { out = out; ok = false; error = 0; said = true; column = 0 } }
+    ensures { result ≡ record { out = out; ok = false; error = pos 0; said = true; column = 0 } }
 {
     Pen {
         out,
