@@ -1,7 +1,7 @@
 -- Answers that do not end the player's run: those to a record after the first that are not refused 13.
 -- Assumes nothing.
 use mathlib.Core.Path.{◌≡◌, refl}
-use mathlib.Core.Bool.{false, and_false}
+use mathlib.Core.Bool.{false, and-false}
 use mathlib.Core.List.{List, [], ◌∷◌}
 use mathlib.Core.Logic.{⊎_elim}
 use mathlib.Core.Option.{Option}
@@ -32,7 +32,7 @@ module _ (records : ℕ) (later : eqb records 0 ≡ false) where
   not-ending : (refusal : ℕ) → (refusal ≡ 13 → ⊥) → ends_run refusal (records + 1) ≡ false
   not-ending refusal other =
       let ne = eqb-false records 0 later in
-      rw (ne_eqb refusal 13 other, ne_eqb (records + 1) 1 (λ e. ne (omega arith)), and_false (eqb refusal 2))
+      rw (ne_eqb refusal 13 other, ne_eqb (records + 1) 1 (λ e. ne (omega arith)), and-false (eqb refusal 2))
 
   on_not_ending : {A : Type 0} (f : A → Answer) (reply : Reply A)
       → ((refusal : ℕ) (detail : Option ℕ) → reply ≡ refused_with refusal detail → refusal ≡ 13 → ⊥)
