@@ -2,4 +2,3 @@
 // blocks in another order. All over the definitions that the crates origins, ordering, scriptwrites, tracewrites and
 // playback cite. specs/ has the claims, proofs/ their proofs.
 #![tactic(auto)]
-
