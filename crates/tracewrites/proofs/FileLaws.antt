@@ -123,7 +123,7 @@ module _ (last : Bool) (run : WritesRun) (bytes lent : List ℕ) where
       where
         go : {taken : Taken} → TakenAs run.records bytes lent taken → is_trace_refusal taken.result.refusal ≡ false
             → length (drop taken.result.used bytes) < length bytes
-        go (as_refused refusal e) on = zero_not_one (cc)
+        go (as_refused _ e) on = zero_not_one (cc)
         go (as_passed next values) on = omega (arith, rest_less bytes one)
 
   -- where nothing is left to do, a record was passed or the trace is refused
@@ -140,7 +140,7 @@ module _ (last : Bool) (run : WritesRun) (bytes lent : List ℕ) where
     where
       go : {taken : Taken} → TakenAs run.records bytes lent taken
           → nothing_left (is_trace_refusal taken.result.refusal) last (length (drop taken.result.used bytes)) ≡ true → settled (run_after run taken) ≡ true
-      go (as_refused refusal e) done = rw e
+      go (as_refused _ e) done = rw e
       go (as_passed next values) done = ap not (ne_eqb (next_record_number run.records) 0 (λ z. omega arith))
 
       stays : (refused : Bool) → is_trace_refusal run.refusal ≡ refused → (first : Bool) → eqb run.records 0 ≡ first → is_empty ≡ false

@@ -153,7 +153,7 @@ module _ (last : Bool) (run : WritesRun) (left lent rest : List ℕ) (ends : las
   one_known = go (taken_as run.records left lent)
     where
       go : {taken : Taken} → TakenAs run.records left lent taken → Known (run_after run taken) (drop taken.result.used left ++ rest)
-      go (as_refused refusal e) = record { small = known.small; counts = known.counts }
+      go (as_refused _ e) = record { small = known.small; counts = known.counts }
       go (as_passed next values) =
           let same = same_next last first left rest ends shown in
           let fewer = ap length (sym same.after) in
