@@ -1,7 +1,8 @@
 -- `trace::data_lengths` meets its contract, row by row.
 use mathlib.Core.Path.{refl}
+use native.Mathlib.Omega.{arith}
 use Rattle.trace.specs.Records.{kind_row_in, kind_rows}
-use Rattle.trace.proofs.KindLaws.{no_row}
+use Rattle.trace.proofs.KindLaws.{NoRow, no_row}
 use Rattle.trace.proofs.data_lengths.Goals as goal
 
 pub returns-in-0 : goal.returns-in-0
@@ -34,4 +35,6 @@ returns-in-18 c = rw c.in-18.is (record { least = refl; most = refl })
 
 pub returns-in_default : goal.returns-in_default
 unfolding kind_row_in kind_rows
-returns-in_default c = rw (no_row kind_rows c.args.kind c.in_default.in_default-own.rest).1 (record { least = refl; most = refl })
+returns-in_default c =
+    let none : NoRow Unit kind_rows c.args.kind = (((((((tt, omega arith), omega arith), omega arith), omega arith), omega arith), omega arith), omega arith) in
+    rw (no_row kind_rows c.args.kind none).1 (record { least = refl; most = refl })

@@ -1,6 +1,7 @@
 -- `trace::data_record` meets its contract, row by row.
+use native.Mathlib.Omega.{arith}
 use Rattle.trace.specs.Records.{kind_row_in, kind_rows}
-use Rattle.trace.proofs.KindLaws.{no_row}
+use Rattle.trace.proofs.KindLaws.{NoRow, no_row}
 use Rattle.trace.proofs.data_record.Goals as goal
 
 pub returns-in-0 : goal.returns-in-0
@@ -33,4 +34,6 @@ returns-in-18 c = rw (c.in-18.is, c.byte_at-first.ensures, c.number.ensures, c.n
 
 pub returns-in_default : goal.returns-in_default
 unfolding kind_row_in kind_rows
-returns-in_default c = rw (no_row kind_rows c.args.kind c.in_default.in_default-own.rest).1
+returns-in_default c =
+    let none : NoRow Unit kind_rows c.args.kind = (((((((tt, omega arith), omega arith), omega arith), omega arith), omega arith), omega arith), omega arith) in
+    rw (no_row kind_rows c.args.kind none).1

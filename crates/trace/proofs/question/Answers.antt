@@ -1,5 +1,6 @@
 -- `trace::question` meets its contract, by the direction.
 use mathlib.Core.Path.{sym}
+use native.Mathlib.Omega.{arith}
 use borrow.Author.Tests.{ne_eqb}
 use Rattle.trace.specs.Records.{question_record}
 use Rattle.trace.proofs.question.Goals as goal
@@ -16,4 +17,4 @@ pub returns-in_default : goal.returns-in_default
 unfolding question_record
 returns-in_default c =
     let d = c.byte_at in
-    rw (sym d.ensures, ne_eqb d.result 0 c.in_default.in_default-own.rest.0.1, ne_eqb d.result 1 c.in_default.in_default-own.rest.1)
+    rw (sym d.ensures, ne_eqb d.result 0 (omega arith), ne_eqb d.result 1 (omega arith))
