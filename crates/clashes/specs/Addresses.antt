@@ -34,7 +34,7 @@ any_below test (suc n) = cond (test n) true (any_below test n)
 unfoldable pub is_reached : Hub → ℕ → Bool
 is_reached hub port = any_below (λ address. address_reaches hub address port) 128
 
--- `no_address`: "a forwarded port of which no device hears a write to any address"
+-- `no-address`: "a forwarded port of which no device hears a write to any address"
 unfoldable pub has_no_address : Hub → ℕ → Bool
 has_no_address hub port = is_forwarded hub port && not (is_reached hub port)
 
@@ -52,7 +52,7 @@ pub record AddressReachesMeans (hub : Hub) (address port : ℕ) : Type 0 where
 abbrev pub AddressReachesExact : Type 0
 AddressReachesExact = (hub : Hub) (address port : ℕ) → AddressReachesMeans hub address port
 
--- `same_address`: "a write to an address reaches two or more ports"
+-- `same-address`: "a write to an address reaches two or more ports"
 abbrev pub address_shared : Hub → ℕ → Bool
 address_shared hub address = several_ports (port_mask (address_reaches hub address))
 

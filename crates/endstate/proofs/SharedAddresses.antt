@@ -1,4 +1,4 @@
--- What `same_address` finds: two ports that are reached, and the origins of the aliases.
+-- What `same-address` finds: two ports that are reached, and the origins of the aliases.
 -- Assumes nothing.
 use mathlib.Core.Path.{◌≡◌, refl, sym, ap, ◌∙◌}
 use mathlib.Core.Bool.{false}

@@ -1,5 +1,5 @@
 -- The lines of an address: "who hears a write, [...] with the lines that set pass-through, alias and remote address of
--- each device"; and `same_address`: "a write to an address reaches two or more ports. Lines: the origins of the alias
+-- each device"; and `same-address`: "a write to an address reaches two or more ports. Lines: the origins of the alias
 -- registers that match. Meant, where all have one and the same line as origin (a broadcast); else wrong". The hub has
 -- the registers of the end, and beside it are their origins.
 -- Assumes nothing.

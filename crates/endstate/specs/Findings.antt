@@ -1,4 +1,4 @@
--- What is found where ports share something: `same-channel` and `same_address`.
+-- What is found where ports share something: `same-channel` and `same-address`.
 -- Assumes nothing.
 use Rattle.std.specs.Prelude.{◌≡◌, Bool, true, false, cond, List, [], ◌⊎◌, ℕ}
 use Rattle.ports.specs.PortMasks.{several_ports}

@@ -1,4 +1,4 @@
--- How many findings in the state at the end are wrong: `same-channel`, `same_address` and `not-set-up`.
+-- How many findings in the state at the end are wrong: `same-channel`, `same-address` and `not-set-up`.
 -- Assumes nothing.
 use Rattle.std.specs.Prelude.{◌≡◌, Bool, true, false, cond, ℕ, zero, suc, ◌+◌}
 use Rattle.formats.specs.declared.Format.{Format}

@@ -42,7 +42,7 @@ is_odd value = value % 2 == 1
 unfoldable pub not_followed : NumberedWrite → Bool
 not_followed w = not (is_writable w.offset)
 
--- `no_port_lem`: "a per-port register is written while no port is ticked"
+-- `no-port`: "a per-port register is written while no port is ticked"
 unfoldable pub no_port : RegisterFile → List NumberedWrite → NumberedWrite → Bool
 no_port start before w =
     per_port w.offset && not (any_port (port_mask (λ port. bit port (selection (after_each start before)))))
@@ -51,7 +51,7 @@ no_port start before w =
 unfoldable pub bits_ignored : RegisterFile → List NumberedWrite → NumberedWrite → Bool
 bits_ignored start before w = any_reached (after_each start before) w.offset && ignores_bits w.offset w.value
 
--- `no_change`: "registers were reached and all keep their values"
+-- `no-change`: "registers were reached and all keep their values"
 unfoldable pub no_change : RegisterFile → List NumberedWrite → NumberedWrite → Bool
 no_change start before w =
     let file = after_each start before in

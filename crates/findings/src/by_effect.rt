@@ -1,4 +1,4 @@
-// The findings by what a write does: `not-followed`, `no-port`, `bits-ignored`, `no_change` and `odd-alias`, the ports
+// The findings by what a write does: `not-followed`, `no-port`, `bits-ignored`, `no-change` and `odd-alias`, the ports
 // whose register it reaches, and those whose register it changes.
 ghost use Rattle.std.specs.Prelude.{◌≡◌};
 ghost use Rattle.findings.specs.WritesSoFar.{effect_now};
@@ -80,7 +80,7 @@ pub fn ignores_by(effect: Effect) -> bool
     }
 }
 
-// `no_change`: whether registers are reached, and all keep their values.
+// `no-change`: whether registers are reached, and all keep their values.
 pub fn keeps_all_by(effect: Effect) -> bool
     ensures { result ≡ keeps_all_by effect }
 {
