@@ -10,20 +10,13 @@ pub enum Format {
     Raw12,
 }
 
-// The answer to a format given as a number of bits.
-#[derive(Clone, Copy)]
-pub enum FormatAnswer {
-    Unknown,
-    Known(Format),
-}
-
 // The format whose pixels have `bits` bits.
-pub fn from_bits(bits: u8) -> FormatAnswer
+pub fn from_bits(bits: u8) -> Option<Format>
     ensures { format_reply result ≡ format_of bits }
 {
     match bits {
-        10 => FormatAnswer::Known(Format::Raw10),
-        12 => FormatAnswer::Known(Format::Raw12),
-        _ => FormatAnswer::Unknown,
+        10 => Some(Format::Raw10),
+        12 => Some(Format::Raw12),
+        _ => None,
     }
 }

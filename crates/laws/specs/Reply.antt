@@ -1,6 +1,6 @@
 -- What every question and every event is answered: a refusal, or what was asked for.
 -- Assumes nothing.
-use Rattle.std.specs.Prelude.{Bool, true, false, ℕ}
+use Rattle.std.specs.Prelude.{Bool, true, false, ℕ, Result, Ok, Err}
 use Rattle.std.proofs.Math.Option.{Option, none, some}
 
 -- a refusal has its number in the papers and, where they give one, a detail: with 14 and 15 the number of the line
@@ -27,3 +27,8 @@ and_then (given a) next = next a
 abbrev pub is_refused : {A : Type 0} → Reply A → Bool
 is_refused (refused_with number detail) = true
 is_refused (given a) = false
+
+-- a refusal has its number by `number`; what was asked for is given
+abbrev pub reply_by : {A E : Type 0} → (E → ℕ) → Result A E → Reply A
+reply_by number (Ok a) = given a
+reply_by number (Err e) = refused (number e)
