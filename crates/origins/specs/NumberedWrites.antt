@@ -3,11 +3,7 @@
 use Rattle.std.specs.Prelude.{ℕ, List, [], ◌∷◌}
 use mathlib.Core.List.{Memᴰ}
 use Rattle.registers.specs.Bursts.{RegisterWrite, burst_writes}
-
-pub record NumberedWrite : Type 0 where
-  pub number : ℕ
-  pub offset : ℕ
-  pub value : ℕ
+pub use Rattle.origins.specs.declared.NumberedWrite.{NumberedWrite}
 
 -- the write without its number, and so each of a list
 abbrev pub unnumbered : NumberedWrite → RegisterWrite

@@ -13,6 +13,14 @@ use registers::{PageAccess, RegisterFile, bits, map};
 
 pub mod effects;
 
+// A register write with its number.
+#[derive(Clone, Copy)]
+pub struct NumberedWrite {
+    pub number: u64,
+    pub offset: u8,
+    pub value: u8,
+}
+
 // The origins of the registers at an offset: the shared one's and each port's. 0 is none, the start value stands: lines
 // and records are counted from 1.
 #[derive(Clone, Copy)]
@@ -87,22 +95,17 @@ pub fn start(registers: RegisterFile) -> RegistersWithOrigins
     }
 }
 
-// A register write with its number, under the page selection.
-pub fn write(
-    state: RegistersWithOrigins,
-    number: u64,
-    offset: u8,
-    value: u8,
-) -> RegistersWithOrigins
-    ensures { result ≡ write_numbered state (record { number = number; offset = offset; value = value }) }
+// A numbered write, under the page selection.
+pub fn write(state: RegistersWithOrigins, write: NumberedWrite) -> RegistersWithOrigins
+    ensures { result ≡ write_numbered state write }
 {
+    let offset = write.offset;
+    let at = offset as usize;
     let file = state.registers;
-    let before = state.origins[offset as usize];
+    let before = state.origins[at];
     let mut next = state;
-    let after = origins_after(file, before, number, offset);
-    next.origins[offset as usize] = after;
-    let registers = registers::write(file, PageAccess::Selection, offset, value);
-    next.registers = registers;
+    next.origins[at] = origins_after(file, before, write.number, offset);
+    next.registers = registers::write(file, PageAccess::Selection, offset, write.value);
     next
 }
 
@@ -117,11 +120,14 @@ pub fn burst(
 {
     let mut next = state;
     let mut at = offset;
-    let mut i = 0;
-    while i < values.len() {
-        next = write(next, number, at, values[i]);
-        at = std::num::wrapping_add_u8(at, 1);
-        i += 1;
+    for value in values {
+        let numbered = NumberedWrite {
+            number,
+            offset: at,
+            value: *value,
+        };
+        next = write(next, numbered);
+        at = at.wrapping_add(1);
     }
     next
 }

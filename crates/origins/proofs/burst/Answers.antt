@@ -5,17 +5,14 @@ use Rattle.origins.specs.NumberedWrites.{numbered_as}
 use Rattle.origins.specs.KeptOrigins.{write_numbered_each}
 use Rattle.origins.proofs.burst.Goals as goal
 
-pub loop-i-preserved : goal.loop-i-preserved
+pub loop-value-preserved : goal.loop-value-preserved
 unfolding write_numbered_each numbered_as burst_writes
-loop-i-preserved c =
-    let l = c.loop-i in (
-      omega arith,
-      rw (c.wrapping_add_u8-at.ensures.value, c.write-next.ensures, add-one l.i)
-          (rw (drop-cons c.args.values.now l.i 0 (omega arith)) at l.invariant.1),
-    )
+loop-value-preserved c =
+    let l = c.loop-value in
+    rw (c.write-next.ensures, add-one l.value-index)
+    (rw (drop-cons c.args.values.now l.value-index 0 (omega arith)) at l.invariant)
 
 pub returns : goal.returns
 unfolding write_numbered_each numbered_as burst_writes
 returns c =
-    rw (drop_of_length-le c.args.values.now {i = c.loop-i.i} (omega arith))
-    at c.loop-i.invariant.1
+    rw (drop_of_length-le c.args.values.now {i = c.loop-value.value-index} (omega arith)) at c.loop-value.invariant

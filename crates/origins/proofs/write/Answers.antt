@@ -4,4 +4,4 @@ use Rattle.origins.proofs.write.Goals as goal
 
 pub returns : goal.returns
 unfolding write_numbered
-returns c = rw (c.write-registers.ensures, c.origins_after-after.ensures)
+returns c = rw (c.write-next.ensures, c.origins_after.ensures)
