@@ -1,14 +1,12 @@
 -- What the records of a trace ask: document 01, "The trace and the player", refusal 13, and L5.
 -- Assumes nothing.
-use Rattle.std.specs.Prelude.{Bool, cond, not, ◌&&◌, List, [], ◌∷◌, ℕ, ◌+◌, ◌*◌, eqb, leb, length, get_or, drop}
+use Rattle.std.specs.Prelude.{Bool, cond, not, ◌&&◌, Option, Some, None, List, [], ◌∷◌, ℕ, ◌+◌, ◌*◌, eqb, leb, length, get_or, drop}
 use Rattle.laws.specs.Reply.{Reply, refused, given}
 use Rattle.registers.specs.declared.power_up.PowerUp.{PowerUp}
 use Rattle.registers.specs.declared.power_up.PowerUp.TheVariants.{Boot, Reset}
 use Rattle.trace.specs.declared.Record.{Record}
 use Rattle.trace.specs.declared.Record.TheVariants.{Hub, Write, Read, WriteQuestion, ReadQuestion}
 use Rattle.trace.specs.declared.Record.TheVariants.{Start, End, PixelLine}
-use Rattle.trace.specs.declared.FoundRecord.{FoundRecord}
-use Rattle.trace.specs.declared.FoundRecord.TheVariants.{NoRecord, Found}
 use Rattle.trace.specs.Framing.{has_mark, kind_byte, data_of, holds_record}
 
 -- what a record asks of the hub
@@ -110,6 +108,6 @@ record_in bytes (Start port bits) = start_record port bits
 record_in bytes (End port) = end_record port
 record_in bytes (PixelLine port width pixel) = pixel_line_record port width pixel
 
-abbrev pub found_reply : List ℕ → FoundRecord → Reply TraceRecord
-found_reply bytes NoRecord = refused 13
-found_reply bytes (Found asked) = given (record_in bytes asked)
+abbrev pub found_reply : List ℕ → Option Record → Reply TraceRecord
+found_reply bytes None = refused 13
+found_reply bytes (Some asked) = given (record_in bytes asked)

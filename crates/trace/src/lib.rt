@@ -25,13 +25,6 @@ pub enum Record {
     PixelLine { port: u8, width: u16, pixel: u16 },
 }
 
-// What stands at the start of some bytes: a record, or none that the format has.
-#[derive(Clone, Copy)]
-pub enum FoundRecord {
-    NoRecord,
-    Found(Record),
-}
-
 // How many bytes of data a kind has: the least and the most.
 #[derive(Clone, Copy)]
 pub(crate) struct DataLengths {
@@ -76,33 +69,33 @@ fn may_stand(first: bool, kind: u8) -> bool
     kind != 0x00
 }
 
-fn hub(bytes: &[u8]) -> FoundRecord
+fn hub(bytes: &[u8]) -> Option<Record>
     ensures { found_reply bytes.now result ≡ hub_asked bytes.now }
 {
     let address = buffers::byte_at(bytes, 0);
     if bytes.len() == 1 {
-        return FoundRecord::Found(Record::Hub {
+        return Some(Record::Hub {
             address,
             start: PowerUp::Boot,
         });
     }
     if buffers::byte_at(bytes, 1) == 0 {
-        return FoundRecord::Found(Record::Hub {
+        return Some(Record::Hub {
             address,
             start: PowerUp::Reset,
         });
     }
-    FoundRecord::NoRecord
+    None
 }
 
-fn question(bytes: &[u8]) -> FoundRecord
+fn question(bytes: &[u8]) -> Option<Record>
     ensures { found_reply bytes.now result ≡ question_record bytes.now }
 {
     let address = buffers::byte_at(bytes, 0);
     match buffers::byte_at(bytes, 1) {
-        0 => FoundRecord::Found(Record::WriteQuestion { address }),
-        1 => FoundRecord::Found(Record::ReadQuestion { address }),
-        _ => FoundRecord::NoRecord,
+        0 => Some(Record::WriteQuestion { address }),
+        1 => Some(Record::ReadQuestion { address }),
+        _ => None,
     }
 }
 
@@ -114,48 +107,48 @@ fn number(bytes: &[u8], low: usize, high: usize) -> u16
 }
 
 // What a record of the kind asks by its data.
-fn data_record(kind: u8, bytes: &[u8]) -> FoundRecord
+fn data_record(kind: u8, bytes: &[u8]) -> Option<Record>
     ensures { found_reply bytes.now result ≡ (kind_row kind).asked bytes.now }
 {
     let first = buffers::byte_at(bytes, 0);
     let second = buffers::byte_at(bytes, 1);
     match kind {
         0x00 => hub(bytes),
-        0x01 => FoundRecord::Found(Record::Write { offset: first }),
-        0x02 => FoundRecord::Found(Record::Read { offset: first }),
+        0x01 => Some(Record::Write { offset: first }),
+        0x02 => Some(Record::Read { offset: first }),
         0x03 => question(bytes),
-        0x10 => FoundRecord::Found(Record::Start {
+        0x10 => Some(Record::Start {
             port: first,
             bits: second,
         }),
-        0x11 => FoundRecord::Found(Record::End { port: first }),
-        0x12 => FoundRecord::Found(Record::PixelLine {
+        0x11 => Some(Record::End { port: first }),
+        0x12 => Some(Record::PixelLine {
             port: first,
             width: number(bytes, 1, 2),
             pixel: number(bytes, 3, 4),
         }),
-        _ => FoundRecord::NoRecord,
+        _ => None,
     }
 }
 
 // A record by its kind and its data; `first` says that it is the trace's first.
-fn kind_record(first: bool, kind: u8, bytes: &[u8]) -> FoundRecord
+fn kind_record(first: bool, kind: u8, bytes: &[u8]) -> Option<Record>
     ensures { found_reply bytes.now result ≡ kind_record first kind bytes.now }
 {
     if may_stand(first, kind) && length_allowed(kind, bytes.len()) {
         return data_record(kind, bytes);
     }
-    FoundRecord::NoRecord
+    None
 }
 
-// The record at the start of the bytes; `first` says that it is the trace's first.
-pub fn record_at(bytes: &[u8], first: bool) -> FoundRecord
+// The record at the start of the bytes, or none that the format has; `first` says that it is the trace's first.
+pub fn record_at(bytes: &[u8], first: bool) -> Option<Record>
     ensures { found_reply (data_of bytes.now) result ≡ record_of first bytes.now }
 {
     if holds_record(bytes) && framing::has_mark(bytes) {
         return kind_record(first, framing::kind_byte(bytes), data_of(bytes));
     }
-    FoundRecord::NoRecord
+    None
 }
 
 // The values of the write record at the start: its data after the offset.
