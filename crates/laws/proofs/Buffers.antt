@@ -12,7 +12,8 @@ use lib.Dec.{leb}
 use lib.ListN.{length, take, drop, get_or, set, length-append, length-drop, take-append-drop}
 use lib.Seq.{take_all, drop-length, length-take-le, drop-cons, take_at, drop_at, drop-append-add, sets, sets-eq, paste, paste-suc, drop-drop}
 use borrow.Rule.Slice.PartMut.{put_mid, mid_of, post_of, Post-is}
-use Rattle.laws.specs.Reply.{Reply, refused, given}
+use Rattle.std.specs.Prelude.{Result, Err}
+use Rattle.laws.specs.Reply.{Reply, refused, given, reply_by}
 use Rattle.laws.specs.Buffers.{written, has_room, after_reply, count_of, Writes}
 
 -- nothing written
@@ -111,6 +112,12 @@ room_test size place needed h = go (leb place (size - needed)) refl
 -- a refusal is the answer, and the buffer stays
 pub refusal : (d : List ℕ) (place number : ℕ) {reply : Reply (List ℕ)} → reply ≡ refused number → Writes d place reply (refused number) d
 refusal d place number e = record { answer = sym (ap count_of e); buffer = sym (ap (after_reply d place) e) }
+
+-- the same of a refusal that has its number by `number`
+pub refused_by : {E : Type 0} (d : List ℕ) (place : ℕ) (number : E → ℕ) {e : E} {result : Result ℕ E} {reply : Reply (List ℕ)} → result ≡ Err e
+    → reply ≡ refused (number e) → Writes d place reply (reply_by number result) d
+refused_by d place number {e} told so =
+    record { answer = ap (reply_by number) told ∙ sym (ap count_of so); buffer = sym (ap (after_reply d place) so) }
 
 -- the bytes that were written are the answer and stand in the buffer
 pub writing : (d : List ℕ) (place n : ℕ) (bytes : List ℕ) {after : List ℕ} {reply : Reply (List ℕ)} → reply ≡ given bytes → n ≡ length bytes

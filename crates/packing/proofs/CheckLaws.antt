@@ -4,14 +4,12 @@ use mathlib.Core.Path.{◌≡◌, refl, sym, ap, ◌∙◌}
 use mathlib.Core.Bool.{Bool, true, false, cond, ◌&&◌}
 use mathlib.Core.List.{List, [], ◌∷◌}
 use Prim.Native.Nat.{ℕ, zero, suc, ◌+◌, ◌^◌, ◌≤◌, ◌<◌, ◌%◌}
-use native.Mathlib.Numerals.{add-one}
 use native.Mathlib.Omega.{arith}
 use borrow.Author.Tests.{lt-ltb, le-ltb, le-leb, lt-leb, eq-eqb, ltb-true, ltb-false, leb-true, eqb-true}
-use lib.Bits.{bit_or, or_lt, or_add_and, and_le_l, and_le_r, or_zero_r}
+use lib.Bits.{bit_or, or_lt, or_add_and, and_le_l, and_le_r, or_zero_r, or_zero_l}
 use lib.Dec.{ltb, leb, eqb}
-use lib.ListN.{length, get_or, drop, drop_of_length-le}
+use lib.ListN.{length}
 use lib.Pow.{pow_pos}
-use lib.Seq.{drop-cons}
 use Rattle.laws.proofs.Absurd.{zero_not_one}
 use Rattle.laws.proofs.Bitwise.{or_assoc}
 use Rattle.laws.proofs.Bools.{both}
@@ -20,8 +18,10 @@ use Rattle.laws.specs.Buffers.{if_room}
 use Rattle.laws.specs.Elements.{AllBelow}
 use Rattle.formats.specs.declared.Format.{Format}
 use Rattle.formats.specs.declared.Format.TheVariants.{Raw10, Raw12}
-use Rattle.packing.specs.declared.check.PixelCheck.{PixelCheck}
-use Rattle.packing.specs.declared.check.PixelCheck.TheVariants.{WidthNotAllowed, PixelTooLarge, Fit}
+use Rattle.std.specs.Prelude.{Result, Ok, Err}
+use Rattle.std.specs.List.{fold}
+use Rattle.packing.specs.declared.check.PixelRefusal.{PixelRefusal}
+use Rattle.packing.specs.declared.check.PixelRefusal.TheVariants.{WidthNotAllowed, PixelTooLarge}
 use Rattle.packing.specs.Raw.{group_pixels, low_bits, pixel_limit, pixel_fits, all_fit, width_allowed, payload_of}
 use Rattle.packing.specs.Packing.{if_pixels, check_of, after_check, pack_reply}
 use Rattle.packing.specs.Checking.{or_all}
@@ -66,14 +66,14 @@ unfolding all_fit
 below_fit format [] below = refl
 below_fit format (pixel ∷ pixels) below = rw (lt-ltb pixel (pixel_limit format) (below 0)) (below_fit format pixels (λ i. below (suc i)))
 
--- the loop's sum of bits so far, with those of the rest
-pub or_next : (pixels : List ℕ) (i all : ℕ) → i < length pixels → bit_or all (or_all (drop i pixels)) ≡ bit_or (bit_or all (get_or pixels i 0)) (or_all (drop (i + 1) pixels))
+-- the bits that are set in any of the pixels, gathered from the first on
+or_from : (pixels : List ℕ) (all : ℕ) → fold bit_or all pixels ≡ bit_or all (or_all pixels)
 unfolding or_all
-or_next pixels i all h = rw (drop-cons pixels i 0 h, add-one i) (sym (or_assoc all (get_or pixels i 0) (or_all (drop (suc i) pixels))))
+or_from [] all = sym (or_zero_r all)
+or_from (pixel ∷ pixels) all = or_from pixels (bit_or all pixel) ∙ or_assoc all pixel (or_all pixels)
 
-pub or_end : (pixels : List ℕ) (i all : ℕ) → length pixels ≤ i → bit_or all (or_all (drop i pixels)) ≡ all
-unfolding or_all
-or_end pixels i all h = rw (drop_of_length-le pixels h) (or_zero_r all)
+pub or_folded : (pixels : List ℕ) → fold bit_or 0 pixels ≡ or_all pixels
+or_folded pixels = or_from pixels 0 ∙ or_zero_l (or_all pixels)
 
 -- the test by its cases
 module _ (format : Format) (width : ℕ) where
@@ -107,13 +107,13 @@ module _ (format : Format) (width : ℕ) where
 module _ (format : Format) (pixels : List ℕ) where
   -- what the test finds, by its two questions
   pub check_by : {width fit : Bool} → width_allowed format (length pixels) ≡ width → all_fit format pixels ≡ fit
-      → check_of format pixels ≡ cond width (cond fit Fit PixelTooLarge) WidthNotAllowed
+      → check_of format pixels ≡ cond width (cond fit (Ok tt) (Err PixelTooLarge)) (Err WidthNotAllowed)
   unfolding check_of
   check_by e f = rw (e, f)
 
   -- the answer after the test
-  pub checked : {A : Type 0} (next : Reply A) {check : PixelCheck} → check_of format pixels ≡ check → if_pixels format pixels next ≡ after_check check next
-  checked next e = ap (λ (check : PixelCheck). after_check check next) e
+  pub checked : {A : Type 0} (next : Reply A) {check : Result Unit PixelRefusal} → check_of format pixels ≡ check → if_pixels format pixels next ≡ after_check check next
+  checked next e = ap (λ (check : Result Unit PixelRefusal). after_check check next) e
 
   -- what is not refused has passed the test
   pub passed : {A : Type 0} (next : Reply A) {a : A} → if_pixels format pixels next ≡ given a
@@ -121,14 +121,14 @@ module _ (format : Format) (pixels : List ℕ) where
   unfolding check_of
   passed next {a} e = go (width_allowed format (length pixels)) (all_fit format pixels) e
     where
-      go : (width fit : Bool) → after_check (cond width (cond fit Fit PixelTooLarge) WidthNotAllowed) next ≡ given a
+      go : (width fit : Bool) → after_check (cond width (cond fit (Ok tt) (Err PixelTooLarge)) (Err WidthNotAllowed)) next ≡ given a
           → (width ≡ true) × (fit ≡ true) × (next ≡ given a)
       go true true q = (refl, refl, q)
       go true false q = zero_not_one (cc)
       go false fit q = zero_not_one (cc)
 
   -- where the pixels are good, the width is
-  pub good_width : check_of format pixels ≡ Fit → width_allowed format (length pixels) ≡ true
+  pub good_width : check_of format pixels ≡ Ok tt → width_allowed format (length pixels) ≡ true
   good_width e = (passed {A = Unit} (given tt) (checked (given tt) e)).0
 
 module _ (format : Format) (pixels : List ℕ) (size place : ℕ) where

@@ -1,24 +1,29 @@
 -- What the packer of a pixel line answers, and when it refuses (document 01, "Refusal numbers").
 -- Assumes nothing.
-use Rattle.std.specs.Prelude.{cond, List, ℕ, length}
-use Rattle.laws.specs.Reply.{Reply, refused, given}
+use Rattle.std.specs.Prelude.{cond, List, ℕ, length, Result, Ok, Err}
+use Rattle.laws.specs.Reply.{Reply, refused}
 use Rattle.laws.specs.Buffers.{if_room}
 use Rattle.formats.specs.declared.Format.{Format}
-use Rattle.packing.specs.declared.PackAnswer.{PackAnswer}
-use Rattle.packing.specs.declared.check.PixelCheck.{PixelCheck}
-use Rattle.packing.specs.declared.check.PixelCheck.TheVariants.{WidthNotAllowed, PixelTooLarge, Fit}
+use Rattle.packing.specs.declared.PackRefusal.{PackRefusal}
+use Rattle.packing.specs.declared.PackRefusal.TheVariants.{Pixels, NoRoom}
+use Rattle.packing.specs.declared.check.PixelRefusal.{PixelRefusal}
+use Rattle.packing.specs.declared.check.PixelRefusal.TheVariants.{WidthNotAllowed, PixelTooLarge}
 use Rattle.packing.specs.Raw.{payload_of, width_allowed, all_fit}
 
 -- what the test of a pixel line finds: its width first, then its pixels
-unfoldable pub check_of : Format → List ℕ → PixelCheck
+unfoldable pub check_of : Format → List ℕ → Result Unit PixelRefusal
 check_of format pixels =
-    cond (width_allowed format (length pixels)) (cond (all_fit format pixels) Fit PixelTooLarge) WidthNotAllowed
+    cond (width_allowed format (length pixels)) (cond (all_fit format pixels) (Ok tt) (Err PixelTooLarge)) (Err WidthNotAllowed)
 
--- 5: "width not allowed for the format"; 6: "a pixel does not fit the format"; what follows, if the pixels are good
-abbrev pub after_check : {A : Type 0} → PixelCheck → Reply A → Reply A
-after_check WidthNotAllowed next = refused 5
-after_check PixelTooLarge next = refused 6
-after_check Fit next = next
+-- 5: "width not allowed for the format"; 6: "a pixel does not fit the format"
+abbrev pub pixel_refusal_number : PixelRefusal → ℕ
+pixel_refusal_number WidthNotAllowed = 5
+pixel_refusal_number PixelTooLarge = 6
+
+-- what follows, if the pixels are good
+abbrev pub after_check : {A : Type 0} → Result Unit PixelRefusal → Reply A → Reply A
+after_check (Err refusal) next = refused (pixel_refusal_number refusal)
+after_check (Ok good) next = next
 
 abbrev pub if_pixels : {A : Type 0} → Format → List ℕ → Reply A → Reply A
 if_pixels format pixels next = after_check (check_of format pixels) next
@@ -31,9 +36,7 @@ if_width format pixels next = cond (width_allowed format (length pixels)) next (
 unfoldable pub pack_reply : Format → List ℕ → ℕ → ℕ → Reply (List ℕ)
 pack_reply format pixels size place = if_pixels format pixels (if_room size place (payload_of format pixels))
 
--- the paper's numbers and values for each case of the answer
-abbrev pub pack_answer_reply : PackAnswer → Reply ℕ
-pack_answer_reply PackAnswer.WidthNotAllowed = refused 5
-pack_answer_reply PackAnswer.PixelTooLarge = refused 6
-pack_answer_reply PackAnswer.NoRoom = refused 8
-pack_answer_reply (PackAnswer.Packed bytes) = given bytes
+-- the paper's numbers
+abbrev pub pack_refusal_number : PackRefusal → ℕ
+pack_refusal_number (Pixels refusal) = pixel_refusal_number refusal
+pack_refusal_number NoRoom = 8

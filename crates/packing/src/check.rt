@@ -1,17 +1,28 @@
 // Whether a pixel line has a width that its format allows, and pixels that fit it.
 ghost use Rattle.std.specs.Prelude.{◌≡◌};
 ghost use Rattle.packing.specs.Raw.{pixel_limit, width_allowed};
-ghost use Rattle.packing.specs.Packing.{check_of};
+ghost use Rattle.packing.specs.Packing.{pixel_refusal_number, check_of};
 ghost use Rattle.packing.specs.Checking.{or_all};
 
 use formats::Format;
+use refusals::Refusal;
 
-// Whether the width is allowed and every pixel fits.
+// Why a pixel line is refused.
 #[derive(Clone, Copy)]
-pub enum PixelCheck {
+pub enum PixelRefusal {
     WidthNotAllowed,
     PixelTooLarge,
-    Fit,
+}
+
+impl Refusal for PixelRefusal {
+    ghost number = { pixel_refusal_number };
+
+    fn number(self) -> u8 {
+        match self {
+            PixelRefusal::WidthNotAllowed => 5,
+            PixelRefusal::PixelTooLarge => 6,
+        }
+    }
 }
 
 // What every pixel of the format is below.
@@ -28,13 +39,7 @@ fn pixel_limit(format: Format) -> u16
 fn or_all(pixels: &[u16]) -> u16
     ensures { result ≡ or_all pixels.now }
 {
-    let mut all: u16 = 0;
-    let mut i = 0;
-    while i < pixels.len() {
-        all = all | pixels[i];
-        i += 1;
-    }
-    all
+    pixels.iter().fold(0, |all, pixel| all | *pixel)
 }
 
 // Whether a pixel line may have that width.
@@ -54,14 +59,14 @@ pub fn width_allowed(format: Format, width: usize) -> bool
 }
 
 // Tests the width, then the pixels.
-pub fn check_pixels(format: Format, pixels: &[u16]) -> PixelCheck
+pub fn check_pixels(format: Format, pixels: &[u16]) -> Result<(), PixelRefusal>
     ensures { result ≡ check_of format pixels.now }
 {
     if !width_allowed(format, pixels.len()) {
-        return PixelCheck::WidthNotAllowed;
+        return Err(PixelRefusal::WidthNotAllowed);
     }
-    if or_all(pixels) < pixel_limit(format) {
-        return PixelCheck::Fit;
+    if pixel_limit(format) <= or_all(pixels) {
+        return Err(PixelRefusal::PixelTooLarge);
     }
-    PixelCheck::PixelTooLarge
+    Ok(())
 }

@@ -1,11 +1,10 @@
--- `packing::check::or_all` meets its contract. The loop's invariant: the bits so far, with those of the rest, are the bits of all.
-use mathlib.Core.Path.{sym, ◌∙◌}
-use Rattle.packing.proofs.CheckLaws.{or_next, or_end}
-use native.Mathlib.Omega.{arith}
+-- `packing::check::or_all` meets its contract: gathered from the first pixel on, the bits are those of the definition.
+use mathlib.Core.Path.{◌≡◌, ◌∙◌}
+use Rattle.std.proofs.Common.{rules}
+use Rattle.std.specs.List.{fold}
+use lib.Bits.{bit_or}
+use Rattle.packing.proofs.CheckLaws.{or_folded}
 use Rattle.packing.proofs.check.or_all.Goals as goal
 
-pub loop-i-preserved : goal.loop-i-preserved
-loop-i-preserved c = let l = c.loop-i in (omega arith, sym (or_next _ l.i l.all (omega arith)) ∙ l.invariant.1)
-
 pub returns : goal.returns
-returns c = let l = c.loop-i in sym (or_end _ l.i l.all (omega arith)) ∙ l.invariant.1
+returns c = let folded : c.fold.result ≡ fold bit_or 0 c.args.pixels.now = search rules in folded ∙ or_folded _
