@@ -1,46 +1,30 @@
 // Text of a file or of its name on the page: control characters by their numbers, so that none of them acts.
 use crate::Pen;
-use buffers::text::lowercase_digit;
+use std::io;
+use std::io::Write;
 
 // Whether a byte is part of a control character, of ASCII or, after C2, of UTF-8.
-fn is_control(before: u8, byte: u8) -> bool {
-    if byte < 32 {
-        return true;
-    }
-    if byte == 127 {
-        return true;
-    }
-    if before != 0xC2 {
-        return false;
-    }
-    128 <= byte && byte < 160
+fn is_control(before: Option<u8>, byte: u8) -> bool {
+    byte < 32 || byte == 127 || before == Some(0xC2) && (128..160).contains(&byte)
 }
 
 // A byte, after another one of the same text; a tab as a space.
-pub fn byte(pen: Pen, before: u8, byte: u8) -> Pen {
+pub fn byte(pen: &mut Pen, before: Option<u8>, byte: u8) -> io::Result<()> {
     if byte == b'\t' {
-        return crate::text(pen, b" ");
+        write!(pen, " ")
+    } else if is_control(before, byte) {
+        write!(pen, "\\x{byte:02x}")
+    } else {
+        pen.write_all(&[byte])
     }
-    if is_control(before, byte) {
-        let number = [
-            b'\\',
-            b'x',
-            lowercase_digit(byte / 16),
-            lowercase_digit(byte),
-        ];
-        return crate::text(pen, &number);
-    }
-    let shown = [byte];
-    crate::text(pen, &shown)
 }
 
 // All bytes.
-pub fn bytes(pen: Pen, bytes: &[u8]) -> Pen {
-    let mut written = pen;
-    let mut before: u8 = 0;
-    for i in 0..bytes.len() {
-        written = byte(written, before, bytes[i]);
-        before = bytes[i];
+pub fn bytes(pen: &mut Pen, text: &[u8]) -> io::Result<()> {
+    let mut before = None;
+    for now in text {
+        byte(pen, before, *now)?;
+        before = Some(*now);
     }
-    written
+    Ok(())
 }

@@ -1,7 +1,7 @@
 // The kinds of findings, by name.
-use page::Pen;
+use std::fmt;
 
-#[derive(Clone, Copy)]
+#[derive(Clone, Copy, PartialEq, Eq)]
 pub enum Kind {
     Replaced,
     SameChannel,
@@ -17,19 +17,22 @@ pub enum Kind {
     NoAddress,
 }
 
-pub fn kind_name(pen: Pen, kind: Kind) -> Pen {
-    match kind {
-        Kind::Replaced => page::text(pen, b"replaced"),
-        Kind::SameChannel => page::text(pen, b"same-channel"),
-        Kind::SameAddress => page::text(pen, b"same-address"),
-        Kind::NoPort => page::text(pen, b"no-port"),
-        Kind::NotSetUp => page::text(pen, b"not-set-up"),
-        Kind::PortTwice => page::text(pen, b"port-twice"),
-        Kind::SharedInBlock => page::text(pen, b"shared-in-block"),
-        Kind::NotFollowed => page::text(pen, b"not-followed"),
-        Kind::BitsIgnored => page::text(pen, b"bits-ignored"),
-        Kind::NoChange => page::text(pen, b"no-change"),
-        Kind::OddAlias => page::text(pen, b"odd-alias"),
-        Kind::NoAddress => page::text(pen, b"no-address"),
+impl fmt::Display for Kind {
+    fn fmt<W: fmt::Write>(&self, f: &mut fmt::Formatter<W>) -> fmt::Result {
+        let name = match self {
+            Kind::Replaced => "replaced",
+            Kind::SameChannel => "same-channel",
+            Kind::SameAddress => "same-address",
+            Kind::NoPort => "no-port",
+            Kind::NotSetUp => "not-set-up",
+            Kind::PortTwice => "port-twice",
+            Kind::SharedInBlock => "shared-in-block",
+            Kind::NotFollowed => "not-followed",
+            Kind::BitsIgnored => "bits-ignored",
+            Kind::NoChange => "no-change",
+            Kind::OddAlias => "odd-alias",
+            Kind::NoAddress => "no-address",
+        };
+        f.write_str(name)
     }
 }
