@@ -11,17 +11,8 @@ use lib.Bits.{bit_and}
 use Rattle.laws.proofs.Absurd.{zero_not_one}
 use Rattle.laws.proofs.Bools.{both, never}
 use Rattle.laws.proofs.Tables.{all_below, below_at}
-use Rattle.registers.specs.RegisterMap.{Row, rows, row_in, reset_of, mask_of, per_port, per_port_flag}
+use Rattle.registers.specs.RegisterMap.{Row, rows, row_in, reset_of, mask_of, per_port}
 use Rattle.registers.specs.RegisterMap.{ResetsInsideMasks, RAW10_ID, RAW12_ID}
-
--- the flag of the source's table is 1 exactly where the offset is per-port
-pub flag_per_port : (offset : ℕ) → eqb (per_port_flag offset) 1 ≡ per_port offset
-unfolding per_port_flag
-flag_per_port offset = go (per_port offset)
-  where
-    go : (b : Bool) → eqb (cond b 1 0) 1 ≡ b
-    go true = refl
-    go false = refl
 
 -- The registers of all ports as one row of 1,024: a test at each.
 at_each : (ℕ → ℕ → Bool) → ℕ → Bool

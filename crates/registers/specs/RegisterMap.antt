@@ -78,10 +78,6 @@ mask_of offset = (row_in rows offset).mask
 unfoldable pub per_port : ℕ → Bool
 per_port offset = (row_in rows offset).per_port
 
--- the same as a number, for the table of the source: 1 where the offset is per-port
-unfoldable pub per_port_flag : ℕ → ℕ
-per_port_flag offset = cond (per_port offset) 1 0
-
 -- "that no reset has a set bit outside its mask is proved once over it (the port's own two bits in 0x70 and 0x71
 -- included)". The constant arrays of the source are this table, by the contracts of `map::reset_values::reset_values`
 -- and `map::write_masks::write_masks`.

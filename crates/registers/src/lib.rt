@@ -58,13 +58,11 @@ fn write_ports(file: RegisterFile, access: PageAccess, offset: u8, value: u8) ->
     let selection = file.shared[map::FPD3_PORT_SEL];
     let mask = map::write_mask(offset);
     let mut next = file;
-    let mut port: u8 = 0;
-    while port < 4 {
+    for port in 0..4u8 {
         if writes_port(access, selection, port) {
             let at = 256 * (port as usize) + offset as usize;
             next.pages[at] = bits::masked_write(mask, next.pages[at], value);
         }
-        port += 1;
     }
     next
 }
@@ -83,21 +81,19 @@ pub fn write(file: RegisterFile, access: PageAccess, offset: u8, value: u8) -> R
 fn next_offset(offset: u8) -> u8
     ensures { result ≡ next_offset offset }
 {
-    if offset == 0xFF { 0x00 } else { offset + 1 }
+    offset.wrapping_add(1)
 }
 
-// A burst writes successive offsets, each byte under the selection then in force: `writeEach` goes on with the file
+// A burst writes successive offsets, each byte under the selection then in force: `write_each` goes on with the file
 // that the last write returned, which rules out a burst whose every byte goes under the selection at its start.
 pub fn burst(file: RegisterFile, access: PageAccess, offset: u8, values: &[u8]) -> RegisterFile
     ensures { result ≡ write_burst access file offset values.now }
 {
     let mut next = file;
     let mut at = offset;
-    let mut i = 0;
-    while i < values.len() {
-        next = write(next, access, at, values[i]);
+    for value in values {
+        next = write(next, access, at, *value);
         at = next_offset(at);
-        i += 1;
     }
     next
 }
@@ -148,12 +144,10 @@ fn page_reset(resets: &[u8; 256], index: usize) -> u8
 {
     let offset = index % 256;
     let value = resets[offset];
-    if map::RAW10_ID <= offset {
-        if offset <= map::RAW12_ID {
-            return value + 64 * ((index / 256) as u8);
-        }
+    match offset {
+        map::RAW10_ID..=map::RAW12_ID => value + 64 * ((index / 256) as u8),
+        _ => value,
     }
-    value
 }
 
 // The four pages after reset.
@@ -162,10 +156,8 @@ fn reset_pages() -> [u8; 1024]
 {
     let resets = map::reset_values::reset_values();
     let mut pages = [0u8; 1024];
-    let mut i = 0;
-    while i < 1024 {
-        pages[i] = page_reset(&resets, i);
-        i += 1;
+    for (index, register) in pages.iter_mut().enumerate() {
+        *register = page_reset(&resets, index);
     }
     pages
 }

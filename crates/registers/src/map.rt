@@ -49,5 +49,5 @@ pub fn is_per_port(offset: u8) -> bool
     ensures { result ≡ per_port offset }
 {
     let flags = per_port::per_port_flags();
-    flags[offset as usize] == 1
+    flags[offset as usize]
 }

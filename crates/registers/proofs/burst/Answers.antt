@@ -6,17 +6,15 @@ use Rattle.registers.specs.Bursts.{burst_writes, write_each, write_burst}
 use native.Mathlib.Omega.{arith}
 use Rattle.registers.proofs.burst.Goals as goal
 
-pub loop-i-preserved : goal.loop-i-preserved
+pub loop-value-preserved : goal.loop-value-preserved
 unfolding write_burst write_each burst_writes
-loop-i-preserved c =
-    let l = c.loop-i in (
-      omega arith,
-      rw (c.next_offset-at.ensures, c.write-next.ensures, add-one l.i)
-          (rw (drop-cons c.args.values.now l.i 0 (omega arith)) at l.invariant.1),
-    )
+loop-value-preserved c =
+    let l = c.loop-value in
+    rw (c.next_offset-at.ensures, c.write-next.ensures, add-one l.value-index)
+    (rw (drop-cons c.args.values.now l.value-index 0 (omega arith)) at l.invariant)
 
 pub returns : goal.returns
 unfolding write_burst write_each burst_writes
 returns c =
-    rw (drop_of_length-le c.args.values.now {i = c.loop-i.i} (omega arith))
-    at c.loop-i.invariant.1
+    rw (drop_of_length-le c.args.values.now {i = c.loop-value.value-index} (omega arith))
+    at c.loop-value.invariant
