@@ -1,6 +1,6 @@
 -- The numbers kept for the registers are those of their origins.
 -- Assumes nothing.
-use Rattle.std.proofs.Common.{◌≡◌, ℕ, zero, suc, ◌<◌, Bool, true, false, cond, eqb, List, [], ◌∷◌, ◌++◌, length, get_or, sym, refl, ap, ◌∙◌, arith, length-set, get_or-set_other, get_or-set_same, eqb-true}
+use Rattle.std.proofs.Common.{◌≡◌, ℕ, zero, suc, ◌<◌, ◌≤◌, Bool, true, false, cond, ◌&&◌, eqb, ltb, List, [], ◌∷◌, ◌++◌, map, length, get_or, sym, refl, ap, ◌∙◌, arith, lit<, le-ltb, lt-ltb, length-set, get_or-set_other, get_or-set_same, eqb-true}
 use mathlib.Core.Option.{Option, none, some}
 use borrow.Author.Tests.{eqb-false}
 use lib.ListN.{length-replicate, get_or-replicate}
@@ -16,71 +16,68 @@ use Rattle.origins.specs.declared.RegistersWithOrigins.{RegistersWithOrigins}
 use Rattle.origins.specs.NumberedWrites.{NumberedWrite, unnumbered_writes, numbered_burst}
 use Rattle.origins.specs.Origins.{Register, shared_register, port_register, offset_of, IsRegister}
 use Rattle.origins.specs.Origins.{reaches, after_numbered, later_or, origin_of}
-use Rattle.origins.specs.KeptOrigins.{no_origins, port_origin, number_in, kept_number, number_after, origins_after}
+use Rattle.origins.specs.KeptOrigins.{no_origins, past_last, port_origin, number_in, kept_number, number_after, port_after, origins_after}
 use Rattle.origins.specs.KeptOrigins.{write_numbered, write_numbered_each, start_with, number_of}
 use Rattle.origins.specs.KeptOrigins.{EveryOriginKept, BurstRegisters}
 use Rattle.origins.proofs.NumberedWrites.{unnumbered_as}
 use Rattle.origins.proofs.Reaching.{offset_byte, reaches_none, reaches_other}
 use Rattle.origins.proofs.Reaching.{reaches_shared, no_shared, reaches_ports, no_port_lem}
 
--- of a port above 3 there is none
-pub above_3 : (origins : OffsetOrigins) (port : ℕ) → 3 < port → port_origin origins port ≡ 0
-above_3 origins zero h = absurd (omega arith)
-above_3 origins (suc zero) h = absurd (omega arith)
-above_3 origins (suc (suc zero)) h = absurd (omega arith)
-above_3 origins (suc (suc (suc zero))) h = absurd (omega arith)
-above_3 origins (suc (suc (suc (suc port)))) h = refl
+-- four numbers, by each of them
+pub four_ports : (f : ℕ → ℕ) (numbers : List ℕ) → length numbers ≡ 4
+    → ((port : ℕ) → port < 4 → get_or numbers port 0 ≡ f port) → map f (0 ∷ 1 ∷ 2 ∷ 3 ∷ []) ≡ numbers
+four_ports f (a ∷ b ∷ c ∷ d ∷ []) count each =
+    rw (← each 0 (lit< tt), ← each 1 (lit< tt), ← each 2 (lit< tt), ← each 3 (lit< tt))
+four_ports f [] count each = absurd (omega arith)
+four_ports f (a ∷ []) count each = absurd (omega arith)
+four_ports f (a ∷ b ∷ []) count each = absurd (omega arith)
+four_ports f (a ∷ b ∷ c ∷ []) count each = absurd (omega arith)
+four_ports f (a ∷ b ∷ c ∷ d ∷ e ∷ more) count each = absurd (omega arith)
+
+-- the number of a port that there is
+pub there_is : (origins : OffsetOrigins) (port : ℕ) → port < 4 → port_origin origins port ≡ get_or origins.ports port 0
+there_is origins port h = rw (le-ltb 3 port (omega arith))
 
 -- the numbers at the offset of a write, by its cases
-module _ (file : RegisterFile) (number at : ℕ) (before : OffsetOrigins) where
+module _ (file : RegisterFile) (number at : ℕ) (before : OffsetOrigins) (count : length before.ports ≡ 4) where
+  unmoved : ((port : ℕ) → reaches file at (port_register port at) ≡ false)
+      → map (port_after file number at before) (0 ∷ 1 ∷ 2 ∷ 3 ∷ []) ≡ before.ports
+  unmoved unreached =
+      four_ports (port_after file number at before) before.ports count
+      (λ port h. rw (unreached port, there_is before port h))
+
   pub after_none : mask_of at ≡ 0 → origins_after file number at before ≡ before
   unfolding origins_after
   after_none e =
       rw (
         reaches_none file at e (shared_register at),
-        reaches_none file at e (port_register 0 at),
-        reaches_none file at e (port_register 1 at),
-        reaches_none file at e (port_register 2 at),
-        reaches_none file at e (port_register 3 at),
+        unmoved (λ port. reaches_none file at e (port_register port at)),
       )
 
   module _ (writable : mask_of at ≡ 0 → ⊥) where
     pub after_shared : per_port at ≡ false
-        → origins_after file number at before
-        ≡ record {
-          shared = number;
-          port_0 = before.port_0;
-          port_1 = before.port_1;
-          port_2 = before.port_2;
-          port_3 = before.port_3;
-        }
+        → origins_after file number at before ≡ record { shared = number; ports = before.ports }
     unfolding origins_after
     after_shared p =
         rw (
           reaches_shared file at writable p,
-          no_port_lem file at writable p 0 at,
-          no_port_lem file at writable p 1 at,
-          no_port_lem file at writable p 2 at,
-          no_port_lem file at writable p 3 at,
+          unmoved (λ port. no_port_lem file at writable p port at),
         )
 
-    pub after_ports_lem : per_port at ≡ true
-        → origins_after file number at before
-        ≡ record {
-          shared = before.shared;
-          port_0 = cond (bit 0 (selection file)) number before.port_0;
-          port_1 = cond (bit 1 (selection file)) number before.port_1;
-          port_2 = cond (bit 2 (selection file)) number before.port_2;
-          port_3 = cond (bit 3 (selection file)) number before.port_3;
-        }
+    -- of a per-port register that of each port that is ticked
+    pub after_ports_lem : per_port at ≡ true → (after : OffsetOrigins) → after.shared ≡ before.shared
+        → length after.ports ≡ 4 → (end : ℕ) → 4 ≤ end
+        → ((port : ℕ) → get_or after.ports port 0
+        ≡ cond (ltb port end && bit port (selection file)) number (get_or before.ports port 0))
+        → after ≡ origins_after file number at before
     unfolding origins_after
-    after_ports_lem p =
+    after_ports_lem p after shared four end past each =
         rw (
           no_shared file at writable p at,
-          reaches_ports file at writable p 0,
-          reaches_ports file at writable p 1,
-          reaches_ports file at writable p 2,
-          reaches_ports file at writable p 3,
+          four_ports (port_after file number at before) after.ports four
+              (λ port (h : port < 4). each port
+              ∙ rw (lt-ltb port end (omega arith), reaches_ports file at writable p port, there_is before port h)),
+          ← shared,
         )
 
 -- one write: each register at its offset
@@ -108,7 +105,7 @@ one_write register h state count write = go (eqb (offset_of register) at) refl
     at = write.offset
 
     after : OffsetOrigins
-    after = origins_after state.registers write.number at (get_or state.origins at no_origins)
+    after = origins_after state.registers write.number at (get_or state.origins at past_last)
 
     go : (b : Bool) → eqb (offset_of register) at ≡ b
         → kept_number (write_numbered state write) register
@@ -116,11 +113,11 @@ one_write register h state count write = go (eqb (offset_of register) at) refl
     go true e =
         let q : offset_of register ≡ at = eqb-true (offset_of register) at e in
         let small : at < length state.origins = omega (arith, count, offset_byte register h, q) in
-        rw (q, get_or-set_same state.origins at after no_origins small)
-        (at_offset state.registers write.number at (get_or state.origins at no_origins) register h q)
+        rw (q, get_or-set_same state.origins at after past_last small)
+        (at_offset state.registers write.number at (get_or state.origins at past_last) register h q)
     go false e =
         rw (
-          get_or-set_other state.origins at (offset_of register) after no_origins (eqb-false (offset_of register) at e),
+          get_or-set_other state.origins at (offset_of register) after past_last (eqb-false (offset_of register) at e),
           reaches_other state.registers at register e,
         )
 
@@ -174,20 +171,20 @@ each_append state [] b = refl
 each_append state (write ∷ a) b = each_append (write_numbered state write) a b
 
 -- at the start
-none_in : (register : Register) → number_in no_origins register ≡ 0
-none_in (shared_register offset) = refl
-none_in (port_register zero offset) = refl
-none_in (port_register (suc zero) offset) = refl
-none_in (port_register (suc (suc zero)) offset) = refl
-none_in (port_register (suc (suc (suc zero))) offset) = refl
-none_in (port_register (suc (suc (suc (suc port)))) offset) = refl
+none_in : (register : Register) → IsRegister register → number_in no_origins register ≡ 0
+none_in (shared_register offset) h = refl
+none_in (port_register zero offset) h = refl
+none_in (port_register (suc zero) offset) h = refl
+none_in (port_register (suc (suc zero)) offset) h = refl
+none_in (port_register (suc (suc (suc zero))) offset) h = refl
+none_in (port_register (suc (suc (suc (suc port)))) offset) h = absurd (omega arith)
 
 none_kept : (start : RegisterFile) (register : Register) → IsRegister register
     → kept_number (start_with start) register ≡ 0
 unfolding kept_number start_with
 none_kept start register h =
-    rw (get_or-replicate {A = OffsetOrigins} 256 (offset_of register) no_origins no_origins (offset_byte register h))
-    (none_in register)
+    rw (get_or-replicate {A = OffsetOrigins} 256 (offset_of register) no_origins past_last (offset_byte register h))
+    (none_in register h)
 
 or_none : (origin : Option NumberedWrite) → number_or 0 origin ≡ number_of origin
 or_none none = refl

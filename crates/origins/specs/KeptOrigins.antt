@@ -1,6 +1,6 @@
 -- How the origins are kept beside the registers: a write puts its number at each register that it reaches.
 -- Assumes nothing.
-use Rattle.std.specs.Prelude.{◌≡◌, ℕ, zero, suc, ◌≤◌, cond, List, [], ◌∷◌, replicate, slice_index_or, slice_set}
+use Rattle.std.specs.Prelude.{◌≡◌, ℕ, ◌≤◌, cond, List, [], ◌∷◌, map, replicate, nat_lt, slice_index, slice_index_or, slice_set}
 use mathlib.Core.List.{Memᴰ}
 use Rattle.std.proofs.Math.Option.{Option, none, some}
 use Rattle.registers.specs.declared.RegisterFile.{RegisterFile}
@@ -14,15 +14,15 @@ use Rattle.origins.specs.Origins.{reaches, after_numbered, after_each, origin_of
 
 -- 0 for none
 abbrev pub no_origins : OffsetOrigins
-no_origins = record { shared = 0; port_0 = 0; port_1 = 0; port_2 = 0; port_3 = 0 }
+no_origins = record { shared = 0; ports = replicate 4 0 }
+
+-- past the last offset there is no register
+abbrev pub past_last : OffsetOrigins
+past_last = record { shared = 0; ports = [] }
 
 -- of a port above 3 there is none
 abbrev pub port_origin : OffsetOrigins → ℕ → ℕ
-port_origin origins zero = origins.port_0
-port_origin origins (suc zero) = origins.port_1
-port_origin origins (suc (suc zero)) = origins.port_2
-port_origin origins (suc (suc (suc zero))) = origins.port_3
-port_origin origins (suc (suc (suc (suc port)))) = 0
+port_origin origins port = cond (nat_lt 3 port) 0 (slice_index origins.ports port)
 
 -- the number kept for a register
 abbrev pub number_in : OffsetOrigins → Register → ℕ
@@ -30,21 +30,22 @@ number_in origins (shared_register offset) = origins.shared
 number_in origins (port_register port offset) = port_origin origins port
 
 unfoldable pub kept_number : RegistersWithOrigins → Register → ℕ
-kept_number state register = number_in (slice_index_or state.origins (offset_of register) no_origins) register
+kept_number state register = number_in (slice_index_or state.origins (offset_of register) past_last) register
 
 -- the number of a write to an offset where it reaches the register, or else the number before
 abbrev pub number_after : RegisterFile → ℕ → ℕ → Register → ℕ → ℕ
 number_after file number at register before = cond (reaches file at register) number before
+
+-- the number of a port after the write
+abbrev pub port_after : RegisterFile → ℕ → ℕ → OffsetOrigins → ℕ → ℕ
+port_after file number at before port = number_after file number at (port_register port at) (port_origin before port)
 
 -- the numbers at the offset of the write
 unfoldable pub origins_after : RegisterFile → ℕ → ℕ → OffsetOrigins → OffsetOrigins
 origins_after file number at before =
     record {
       shared = number_after file number at (shared_register at) before.shared;
-      port_0 = number_after file number at (port_register 0 at) before.port_0;
-      port_1 = number_after file number at (port_register 1 at) before.port_1;
-      port_2 = number_after file number at (port_register 2 at) before.port_2;
-      port_3 = number_after file number at (port_register 3 at) before.port_3;
+      ports = map (port_after file number at before) (0 ∷ 1 ∷ 2 ∷ 3 ∷ []);
     }
 
 unfoldable pub write_numbered : RegistersWithOrigins → NumberedWrite → RegistersWithOrigins
@@ -53,7 +54,7 @@ write_numbered state write =
     let at = write.offset in
     record {
       registers = after_numbered file write;
-      origins = slice_set state.origins at (origins_after file write.number at (slice_index_or state.origins at no_origins));
+      origins = slice_set state.origins at (origins_after file write.number at (slice_index_or state.origins at past_last));
     }
 
 unfoldable pub write_numbered_each : RegistersWithOrigins → List NumberedWrite → RegistersWithOrigins

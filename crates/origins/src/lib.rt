@@ -2,8 +2,7 @@
 // numbered by their line, a trace's by their record.
 #![tactic(auto)]
 
-ghost use Rattle.std.specs.Prelude.{◌≡◌, if◌then◌else◌};
-ghost use Rattle.laws.specs.Bits.{bit};
+ghost use Rattle.std.specs.Prelude.{◌≡◌};
 ghost use Rattle.origins.specs.NumberedWrites.{numbered_burst};
 ghost use Rattle.origins.specs.Origins.{shared_register, port_register, FileOfBytes};
 ghost use Rattle.origins.specs.KeptOrigins.{kept_number, origins_after, start_with};
@@ -22,14 +21,11 @@ pub struct NumberedWrite {
 }
 
 // The origins of the registers at an offset: the shared one's and each port's. 0 is none, the start value stands: lines
-// and records are counted from 1.
+// and records are counted from 1. (Numbers, not options: the theorems EveryOriginKept and EveryNumberMeans are on them.)
 #[derive(Clone, Copy)]
 pub struct OffsetOrigins {
     pub shared: u64,
-    pub port_0: u64,
-    pub port_1: u64,
-    pub port_2: u64,
-    pub port_3: u64,
+    pub ports: [u64; 4],
 }
 
 // The registers, and for each offset where they have their values from.
@@ -39,42 +35,25 @@ pub struct RegistersWithOrigins {
     pub origins: [OffsetOrigins; 256],
 }
 
-// The origin of a port's register at the offset of a write that goes to the selected ports.
-fn port_number(selection: u8, port: u8, number: u64, before: u64) -> u64
-    ensures { result ≡ (if bit port selection then number else before) }
-{
-    if bits::is_set(selection, port) {
-        number
-    } else {
-        before
-    }
-}
-
 // The origins at the offset of a write, after it.
-fn origins_after(
-    file: RegisterFile,
-    before: OffsetOrigins,
-    number: u64,
-    offset: u8,
-) -> OffsetOrigins
-    ensures { result ≡ origins_after file number offset before }
+fn origins_after(file: RegisterFile, before: OffsetOrigins, write: NumberedWrite) -> OffsetOrigins
+    ensures { result ≡ origins_after file write.number write.offset before }
 {
-    if map::write_mask(offset) == 0 {
+    if map::write_mask(write.offset) == 0 {
         return before;
     }
-    if !map::is_per_port(offset) {
-        let mut after = before;
-        after.shared = number;
+    let mut after = before;
+    if !map::is_per_port(write.offset) {
+        after.shared = write.number;
         return after;
     }
     let selection = file.shared[map::FPD3_PORT_SEL];
-    OffsetOrigins {
-        shared: before.shared,
-        port_0: port_number(selection, 0, number, before.port_0),
-        port_1: port_number(selection, 1, number, before.port_1),
-        port_2: port_number(selection, 2, number, before.port_2),
-        port_3: port_number(selection, 3, number, before.port_3),
+    for port in 0..4u8 {
+        if bits::is_set(selection, port) {
+            after.ports[port as usize] = write.number;
+        }
     }
+    after
 }
 
 // Registers that no write has reached yet. What is promised of the registers beside it holds of every value of their
@@ -84,10 +63,7 @@ pub fn start(registers: RegisterFile) -> RegistersWithOrigins
 {
     let none = OffsetOrigins {
         shared: 0,
-        port_0: 0,
-        port_1: 0,
-        port_2: 0,
-        port_3: 0,
+        ports: [0; 4],
     };
     RegistersWithOrigins {
         registers,
@@ -99,13 +75,12 @@ pub fn start(registers: RegisterFile) -> RegistersWithOrigins
 pub fn write(state: RegistersWithOrigins, write: NumberedWrite) -> RegistersWithOrigins
     ensures { result ≡ write_numbered state write }
 {
-    let offset = write.offset;
-    let at = offset as usize;
+    let at = write.offset as usize;
     let file = state.registers;
     let before = state.origins[at];
     let mut next = state;
-    next.origins[at] = origins_after(file, before, write.number, offset);
-    next.registers = registers::write(file, PageAccess::Selection, offset, write.value);
+    next.origins[at] = origins_after(file, before, write);
+    next.registers = registers::write(file, PageAccess::Selection, write.offset, write.value);
     next
 }
 
@@ -144,12 +119,9 @@ pub fn shared_origin(state: RegistersWithOrigins, offset: u8) -> u64
 pub fn port_origin(state: RegistersWithOrigins, port: u8, offset: u8) -> u64
     ensures { result ≡ kept_number state (port_register port offset) }
 {
-    let origins = state.origins[offset as usize];
-    match port {
-        0 => origins.port_0,
-        1 => origins.port_1,
-        2 => origins.port_2,
-        3 => origins.port_3,
-        _ => 0,
+    if 3 < port {
+        return 0;
     }
+    let origins = state.origins[offset as usize];
+    origins.ports[port as usize]
 }
