@@ -1,10 +1,11 @@
 -- How a script line is read, token by token (L1), and the law that exactly the lines of the grammar are read.
 -- Assumes nothing.
 use Rattle.std.specs.Prelude.{◌≡◌, Bool, cond, List, [], ◌∷◌, ℕ, ◌+◌, ◌*◌, eqb, ltb, get_or, drop}
+use Rattle.std.specs.Prelude.{Result, Ok, Err, Option as Answer, None, Some}
 use Rattle.std.proofs.Math.Option.{Option, none, some}
 use Rattle.laws.specs.Texts.{ascii}
-use Rattle.calls.specs.declared.ScriptLine.{ScriptLine}
-use Rattle.calls.specs.declared.ScriptLine.TheVariants.{OtherShape, Blank, Call as CallFound}
+use Rattle.calls.specs.declared.Call.{Call}
+use Rattle.calls.specs.declared.OtherShape.{OtherShape}
 use Rattle.registers.specs.Bursts.{RegisterWrite}
 use Rattle.calls.specs.Grammar.{is_blank, digit_value, is_comment_or_none, IsScriptLine}
 
@@ -62,11 +63,19 @@ call_read line =
 unfoldable pub script_line_read : List ℕ → Option (List RegisterWrite)
 script_line_read line = cond (script_line_ends line) (some []) (call_read line)
 
+-- the register write that a call makes
+abbrev pub write_of : Call → RegisterWrite
+write_of call = record { offset = call.offset; value = call.value }
+
+-- the calls of an answer: none where the line is blank
+abbrev pub calls_in : Answer Call → List RegisterWrite
+calls_in None = []
+calls_in (Some call) = write_of call ∷ []
+
 -- the calls for each case of the answer, or that the line has another shape
-abbrev pub calls_of : ScriptLine → Option (List RegisterWrite)
-calls_of OtherShape = none
-calls_of Blank = some []
-calls_of (CallFound offset value) = some (record { offset = offset; value = value } ∷ [])
+abbrev pub calls_of : Result (Answer Call) OtherShape → Option (List RegisterWrite)
+calls_of (Err other) = none
+calls_of (Ok call) = some (calls_in call)
 
 -- A law: a line is read exactly where it is one of the grammar.
 pub record ScriptLinesTaken (line : List ℕ) (calls : List RegisterWrite) : Type 0 where

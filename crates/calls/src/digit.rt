@@ -1,15 +1,15 @@
 // Hex digits in either case.
-ghost use Rattle.std.specs.Prelude.{◌≡◌};
+ghost use Rattle.std.specs.Prelude.{SomeIff, ◌<◌};
 ghost use Rattle.calls.specs.Grammar.{digit_value};
 
-// The value of a hex digit, and 16 for any other byte.
-pub fn value(byte: u8) -> u8
-    ensures { result ≡ digit_value byte }
+// The value of a hex digit.
+pub fn value(byte: u8) -> Option<u8>
+    ensures { SomeIff result (digit_value byte < 16) (digit_value byte) }
 {
     match byte {
-        48..=57 => byte - 48,
-        65..=70 => byte - 55,
-        97..=102 => byte - 87,
-        _ => 16,
+        48..=57 => Some(byte - 48),
+        65..=70 => Some(byte - 55),
+        97..=102 => Some(byte - 87),
+        _ => None,
     }
 }

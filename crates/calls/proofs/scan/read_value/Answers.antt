@@ -3,10 +3,10 @@ use mathlib.Core.Path.{sym}
 use Rattle.calls.specs.ScriptLines.{digits_read, value_read}
 use Rattle.calls.proofs.scan.read_value.Goals as goal
 
-pub returns-in-Failed : goal.returns-in-Failed
+pub returns-in_err-expect : goal.returns-in_err-expect
 unfolding value_read digits_read
-returns-in-Failed c = rw (sym c.expect.ensures, c.in-Failed.is)
+returns-in_err-expect c = rw (c.from_residual.ensures, sym c.in_err-expect.ensures)
 
-pub returns-in-At : goal.returns-in-At
+pub returns : goal.returns
 unfolding value_read
-returns-in-At c = rw (sym c.expect.ensures, c.in-At.is) c.read_digits.ensures
+returns c = rw (sym c.in_ok-expect.ensures) c.read_digits.ensures
