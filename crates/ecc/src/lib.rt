@@ -1,14 +1,15 @@
 // The check byte (ECC) of a CSI-2 packet header, and the correction of one wrong bit.
 #![tactic(auto)]
 
-ghost use Rattle.std.specs.Prelude.{◌≡◌, ◌<◌};
-ghost use Rattle.laws.specs.Reply.{given};
+ghost use Rattle.std.specs.Prelude.{◌≡◌, ◌<◌, Some};
+ghost use Rattle.laws.specs.Reply.{reply_by};
 ghost use Rattle.laws.specs.Tables.{tabulate};
 ghost use Rattle.ecc.specs.CheckBytes.{check_byte};
 ghost use Rattle.ecc.specs.Columns.{data_column};
-ghost use Rattle.ecc.specs.HeaderCorrection.{flipped, correction_reply, correct_from, correction_of};
-ghost use Rattle.ecc.specs.declared.Corrected.TheVariants.{HeaderBit};
+ghost use Rattle.ecc.specs.HeaderCorrection.{flipped, uncorrectable_number, correct_from, correction_of};
 ghost use Rattle.ecc.specs.Syndrome.{syndrome_of};
+
+use refusals::Refusal;
 
 // The constant of each data bit, to be held beside the standard's table. Bit k of a constant is 1 where check bit Pk
 // counts the data bit. docs/CHECK-BYTES.md has the table as a page.
@@ -64,69 +65,75 @@ pub fn check_byte(word: u32) -> u8
     check
 }
 
-// Which of a header's 32 bits was wrong: 0 is the lowest of the identifier, 31 the highest of the check byte.
+// What a header is read as, its four bytes as one number, the identifier lowest; and which of its 32 bits was wrong, if
+// one was: 0 is the lowest of the identifier, 31 the highest of the check byte.
 #[derive(Clone, Copy)]
-pub enum Corrected {
-    Nothing,
-    HeaderBit(u8),
+pub struct ReadHeader {
+    pub header: u32,
+    pub corrected: Option<u8>,
 }
 
-// What a header is read as, its four bytes as one number, the identifier lowest.
+// A header from which every right one differs in more than one bit.
 #[derive(Clone, Copy)]
-pub enum Correction {
-    Uncorrectable,
-    Header { header: u32, corrected: Corrected },
+pub struct Uncorrectable;
+
+impl Refusal for Uncorrectable {
+    ghost number = { uncorrectable_number };
+
+    fn number(self) -> u8 {
+        10
+    }
 }
 
-// The answer that `bit` was wrong: the header with it flipped.
-fn flip_bit(header: u32, bit: u8) -> Correction
+// What a header is read as whose bit `bit` was wrong: the header with it flipped.
+fn flip_bit(header: u32, bit: u8) -> ReadHeader
     requires { bit < 32 }
-    ensures { correction_reply result ≡ given (record { header = flipped header bit; corrected = HeaderBit bit }) }
+    ensures { result ≡ record { header = flipped header bit; corrected = Some bit } }
 {
-    Correction::Header {
+    ReadHeader {
         header: header ^ (1 << bit),
-        corrected: Corrected::HeaderBit(bit),
+        corrected: Some(bit),
     }
 }
 
 // Corrects the check bit that makes the difference `syndrome`: the one that is the difference itself, if there is one.
-fn correct_check_bit(header: u32, syndrome: u8) -> Correction
+fn correct_check_bit(header: u32, syndrome: u8) -> Result<ReadHeader, Uncorrectable>
     requires { syndrome ≡ syndrome_of header }
-    ensures { correction_reply result ≡ correct_from header 24 8 }
+    ensures { reply_by uncorrectable_number result ≡ correct_from header 24 8 }
 {
     for i in 24..32u8 {
         if 1 << (i - 24) == syndrome {
-            return flip_bit(header, i);
+            return Ok(flip_bit(header, i));
         }
     }
-    Correction::Uncorrectable
+    Err(Uncorrectable)
 }
 
 // Corrects the one bit that makes the difference `syndrome`: the data bit whose constant it is, or a check bit, if
 // there is one.
-fn correct_bit(header: u32, syndrome: u8) -> Correction
+fn correct_bit(header: u32, syndrome: u8) -> Result<ReadHeader, Uncorrectable>
     requires { syndrome ≡ syndrome_of header }
-    ensures { correction_reply result ≡ correct_from header 0 32 }
+    ensures { reply_by uncorrectable_number result ≡ correct_from header 0 32 }
 {
     let table = column_table();
     for i in 0..24 {
         if table[i] == syndrome {
-            return flip_bit(header, i as u8);
+            return Ok(flip_bit(header, i as u8));
         }
     }
     correct_check_bit(header, syndrome)
 }
 
 // Reads a header: as it stands if it is right, else as the right one that differs in one bit.
-pub fn correct_header(header: u32) -> Correction
-    ensures { correction_reply result ≡ correction_of header }
+pub fn correct_header(header: u32) -> Result<ReadHeader, Uncorrectable>
+    ensures { reply_by uncorrectable_number result ≡ correction_of header }
 {
     let syndrome = check_byte(header % 0x1000000) ^ ((header / 0x1000000) as u8);
     if syndrome == 0 {
-        return Correction::Header {
+        return Ok(ReadHeader {
             header,
-            corrected: Corrected::Nothing,
-        };
+            corrected: None,
+        });
     }
     correct_bit(header, syndrome)
 }

@@ -3,20 +3,33 @@
 
 ghost use Rattle.std.specs.Prelude.{◌≡◌, ◌*◌, ◌/◌, length};
 ghost use Rattle.laws.specs.Buffers.{Writes};
+ghost use Rattle.laws.specs.Reply.{reply_by};
 ghost use Rattle.packing.specs.Raw.{group_pixels, group_bytes};
-ghost use Rattle.unpacking.specs.Unpacking.{payload_allowed, unpack_reply, unpack_answer_reply};
+ghost use Rattle.unpacking.specs.Unpacking.{payload_allowed, unpack_reply, unpack_refusal_number};
 
-use formats::{Format, FormatAnswer};
+use formats::Format;
+use refusals::Refusal;
 
 mod groups;
 
-// The pixels unpacked, or why none were.
+// Why a payload is not unpacked.
 #[derive(Clone, Copy)]
-pub enum UnpackAnswer {
+pub enum UnpackRefusal {
     UnknownFormat,
     PayloadNotAllowed,
     NoRoom,
-    Unpacked(usize),
+}
+
+impl Refusal for UnpackRefusal {
+    ghost number = { unpack_refusal_number };
+
+    fn number(self) -> u8 {
+        match self {
+            UnpackRefusal::UnknownFormat => 3,
+            UnpackRefusal::PayloadNotAllowed => 17,
+            UnpackRefusal::NoRoom => 8,
+        }
+    }
 }
 
 // How many pixels the whole groups of so many bytes have.
@@ -45,25 +58,22 @@ fn payload_allowed(format: Format, count: usize) -> bool
     }
 }
 
-// Unpacks a payload whose pixels have `bits` bits, to the start of `pixels`; or refuses it and writes nothing.
-pub fn unpack_pixels(bits: u8, payload: &[u8], pixels: &mut [u16]) -> UnpackAnswer
+// Unpacks a payload whose pixels have `bits` bits, to the start of `pixels`; or refuses it and writes nothing. How many
+// pixels were unpacked.
+pub fn unpack_pixels(bits: u8, payload: &[u8], pixels: &mut [u16]) -> Result<usize, UnpackRefusal>
     ensures { Writes pixels.old 0
         (unpack_reply bits payload.now (length pixels.old))
-        (unpack_answer_reply result) pixels.new }
+        (reply_by unpack_refusal_number result) pixels.new }
 {
-    match formats::from_bits(bits) {
-        FormatAnswer::Unknown => UnpackAnswer::UnknownFormat,
-        FormatAnswer::Known(format) => {
-            let count = payload.len();
-            if !payload_allowed(format, count) {
-                return UnpackAnswer::PayloadNotAllowed;
-            }
-            let width = width_of(format, count);
-            if pixels.len() < width {
-                return UnpackAnswer::NoRoom;
-            }
-            groups::unpack(format, payload, pixels);
-            UnpackAnswer::Unpacked(width)
-        }
+    let format = formats::from_bits(bits).ok_or(UnpackRefusal::UnknownFormat)?;
+    let count = payload.len();
+    if !payload_allowed(format, count) {
+        return Err(UnpackRefusal::PayloadNotAllowed);
     }
+    let width = width_of(format, count);
+    if pixels.len() < width {
+        return Err(UnpackRefusal::NoRoom);
+    }
+    groups::unpack(format, payload, pixels);
+    Ok(width)
 }

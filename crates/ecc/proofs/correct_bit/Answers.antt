@@ -1,6 +1,7 @@
 -- `ecc::correct_bit` meets its contract. The loop's invariant: the search from bit i on finds what the whole search does.
 use mathlib.Core.Path.{◌≡◌, sym, ap, ◌∙◌}
 use lib.ListN.{get_or}
+use Rattle.laws.specs.Reply.{given}
 use Rattle.laws.proofs.Tables.{tabulate-at}
 use Rattle.ecc.specs.Columns.{data_column}
 use Rattle.ecc.specs.Syndrome.{column_of}
@@ -19,7 +20,7 @@ compared c = let i = c.loop-i.i in
 pub returns-then-table-i : goal.returns-then-table-i
 returns-then-table-i c =
     let l = c.loop-i in
-    c.flip_bit.ensures ∙ sym (column_here _ l.i (omega arith) (sym (compared ((goal.at.returns-then-table-i c).In-loop-i)) ∙ c.if-table-i.true ∙ c.requires)) ∙ l.invariant.1
+    ap given c.flip_bit.ensures ∙ sym (column_here _ l.i (omega arith) (sym (compared ((goal.at.returns-then-table-i c).In-loop-i)) ∙ c.if-table-i.true ∙ c.requires)) ∙ l.invariant.1
 
 pub loop-i-preserved : goal.loop-i-preserved
 loop-i-preserved c =

@@ -1,6 +1,7 @@
 -- `ecc::correct_check_bit` meets its contract. The loop's invariant: the search from bit i on finds what the search of all check bits does.
-use mathlib.Core.Path.{◌≡◌, sym, ◌∙◌}
+use mathlib.Core.Path.{◌≡◌, sym, ap, ◌∙◌}
 use Prim.Native.Nat.{ℕ, ◌-◌, ◌*◌, ◌%◌, ◌^◌, ◌<◌, ◌≤◌}
+use Rattle.laws.specs.Reply.{given}
 use Rattle.laws.proofs.Bits.{one_shifted}
 use Rattle.ecc.specs.Syndrome.{column_of}
 use Rattle.ecc.proofs.ColumnLaws.{check_column}
@@ -16,7 +17,7 @@ pub returns-then-i-syndrome : goal.returns-then-i-syndrome
 returns-then-i-syndrome c =
     let l = c.loop-i in
     let this = compared l.i l.invariant.0 (omega arith) in
-    c.flip_bit.ensures ∙ sym (column_here _ l.i (omega arith) (sym this ∙ c.if-i-syndrome.true ∙ c.requires)) ∙ l.invariant.2
+    ap given c.flip_bit.ensures ∙ sym (column_here _ l.i (omega arith) (sym this ∙ c.if-i-syndrome.true ∙ c.requires)) ∙ l.invariant.2
 
 pub loop-i-preserved : goal.loop-i-preserved
 loop-i-preserved c =
