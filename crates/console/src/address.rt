@@ -1,76 +1,50 @@
 // The hub's own address as it is typed, and words where it is not one.
 use crate::say;
-use crate::say::{Command, STDERR_FILENO};
-use crate::status::Status;
-use buffers::text::hex_digit;
+use crate::say::Command;
+use crate::status::NotDone;
+use refusals::Refusal;
 use std::io::Print;
 
-// Two hex digits, or something else.
-#[derive(Clone, Copy)]
-pub enum Address {
-    NotTwoDigits,
-    Given(u8),
-}
-
-fn of_digits(high: u8, low: u8) -> Address {
-    let high = calls::digit::value(high);
-    let low = calls::digit::value(low);
-    if 16 <= high {
-        return Address::NotTwoDigits;
-    }
-    if 16 <= low {
-        return Address::NotTwoDigits;
-    }
-    Address::Given(16 * high + low)
+fn digit(byte: u8) -> Option<u8> {
+    let digit = calls::digit::value(byte);
+    if digit < 16 { Some(digit) } else { None }
 }
 
 // The address as 3D or 0x3D.
-pub fn of_word(word: &[u8]) -> Address {
-    if word.len() == 4 {
-        if word[0] != b'0' {
-            return Address::NotTwoDigits;
+pub fn of_word(word: &[u8]) -> Option<u8> {
+    match word {
+        [high, low] | [b'0', b'x', high, low] => {
+            let high = digit(*high)?;
+            let low = digit(*low)?;
+            Some(high << 4 | low)
         }
-        if word[1] != b'x' {
-            return Address::NotTwoDigits;
-        }
-        return of_digits(word[2], word[3]);
+        _ => None,
     }
-    if word.len() != 2 {
-        return Address::NotTwoDigits;
-    }
-    of_digits(word[0], word[1])
 }
 
 // Says how an address is typed.
-pub fn say_form(command: Command) {
+pub fn say_form(command: Command) -> NotDone {
     say::words(
         command,
-        b"give the hub's address as two hex digits, as in 3D or 0x3D\n",
+        "give the hub's address as two hex digits, as in 3D or 0x3D",
     );
+    NotDone::Failed
 }
 
-// Says of an address with 8 bits, as data sheets print them, what its 7 bits are.
-fn say_seven_bits(address: u8) {
-    let typed = [hex_digit(address / 16), hex_digit(address)];
-    let seven = [hex_digit(address / 32), hex_digit(address / 2)];
-    io::write_all(STDERR_FILENO, b"; of ");
-    io::write_all(STDERR_FILENO, &typed);
-    io::write_all(STDERR_FILENO, b" in 8 bits they are ");
-    io::write_all(STDERR_FILENO, &seven);
-}
-
-// Says that no hub has the address.
-pub fn refuse(rt: &impl Print, command: Command, address: u8, number: u8) -> Status {
-    if let Err(error) = say::refusal(rt, number as u64) {
-        return say::unwritten(command, b"cannot write the output", error);
+// Says that no hub has the address; of one with 8 bits, as data sheets print them, what its 7 bits are.
+pub fn refuse<E: Refusal>(rt: &impl Print, command: Command, address: u8, refusal: E) -> NotDone {
+    if let Err(unwritten) = say::refusal(rt, command, refusal) {
+        return unwritten;
     }
-    say::words(
-        command,
-        b"the hub's address has 7 bits and lies in 08 to 77",
-    );
+    let range = "the hub's address has 7 bits and lies in 08 to 77";
     if 0x77 < address {
-        say_seven_bits(address);
+        let seven = address / 2;
+        say::words(
+            command,
+            format_args!("{range}; of {address:02X} in 8 bits they are {seven:02X}"),
+        );
+    } else {
+        say::words(command, range);
     }
-    io::write_all(STDERR_FILENO, b"\n");
-    Status::Refused
+    NotDone::Refused
 }

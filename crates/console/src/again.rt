@@ -2,14 +2,16 @@
 // it is a file; or a copy.
 ghost use Rattle.std.specs.Prelude.{◌≤◌, length};
 
+use crate::input::Input;
 use crate::opened::{ESPIPE, Opened};
 use crate::say::Command;
+use crate::status::NotDone;
 use crate::{input, spool};
-use std::fs;
 use std::fs::{File, OpenOptions};
-use std::io::{Error, ErrorKind, Result};
+use std::io::{Error, ErrorKind};
 use std::random::RandomSource;
 use std::rt::Files;
+use std::{fs, io};
 
 // Where the system has standard input as a file with a name, and where it tells its place.
 const STDIN_NAME: &str = "/proc/self/fd/0";
@@ -23,34 +25,23 @@ pub struct Again {
     pub start: u64,
 }
 
-// The number in decimal that follows blanks.
-fn number_in(text: &[u8]) -> u64 {
-    let mut number: u64 = 0;
-    for i in 0..text.len() {
-        let byte = text[i];
-        if b'0' <= byte && byte <= b'9' {
-            number = number.wrapping_mul(10).wrapping_add((byte - b'0') as u64);
-        } else if byte != b' ' && byte != b'\t' {
-            return number;
-        }
-    }
-    number
+// The place in a text whose first line is such as pos: 12.
+fn place_in(text: &[u8]) -> Option<u64> {
+    let text = std::str::from_utf8(text).ok()?;
+    let line = text.lines().next()?;
+    line.strip_prefix("pos:")?.trim().parse().ok()
 }
 
-// The place of standard input's next byte, from a first line such as pos: 12.
-fn stdin_place(rt: &impl Files<File = File>) -> Result<u64> {
+// The place of standard input's next byte.
+fn stdin_place(rt: &impl Files<File = File>) -> io::Result<u64> {
     let told = Opened::File(OpenOptions::new().read(true).open(rt, STDIN_PLACE)?);
     let mut buffer = [0u8; 64];
     let count = told.read(&mut buffer)?;
-    let text = &buffer[..count];
-    if count < 5 || text[0] != b'p' || text[3] != b':' {
-        return Err(Error::from_raw_os_error(ESPIPE));
-    }
-    Ok(number_in(buffers::bytes_from(text, 4)))
+    place_in(&buffer[..count]).ok_or(Error::from_raw_os_error(ESPIPE))
 }
 
 // Standard input opened a second time, at its place; an error where it is no file.
-fn open_stdin(rt: &impl Files<File = File>) -> Result<Again> {
+fn open_stdin(rt: &impl Files<File = File>) -> io::Result<Again> {
     if !fs::metadata(rt, STDIN_NAME)?.is_file() {
         return Err(Error::from_raw_os_error(ESPIPE));
     }
@@ -60,64 +51,42 @@ fn open_stdin(rt: &impl Files<File = File>) -> Result<Again> {
     Ok(Again { file, start })
 }
 
-fn copy(
-    rt: &(impl Files<File = File> + RandomSource),
-    command: Command,
-    from: &Opened,
-    path: &[u8],
-) -> Option<Again> {
-    let file = spool::copy(rt, command, from, path)?;
-    Some(Again { file, start: 0 })
-}
-
-// Whether the file can be read; says so where it cannot.
-fn is_readable(command: Command, from: &Opened, path: &[u8]) -> bool {
-    let mut nothing = [0u8; 0];
-    match from.read(&mut nothing) {
-        Ok(_) => true,
-        Err(error) => {
-            input::say_unread(command, path, error);
-            false
-        }
-    }
-}
-
-// What can be read only as it comes.
+// What can be read only as it comes: standard input opened again where it can be, else a copy.
 fn of_stream(
     rt: &(impl Files<File = File> + RandomSource),
-    command: Command,
-    from: &Opened,
-    path: &[u8],
-) -> Option<Again> {
-    match from {
-        Opened::File(_) => copy(rt, command, from, path),
-        Opened::Stdin(_) => {
-            if !is_readable(command, from, path) {
-                return None;
-            }
-            match open_stdin(rt) {
-                Ok(again) => Some(again),
-                Err(_) => copy(rt, command, from, path),
-            }
+    from: Input<'_>,
+) -> Result<Again, NotDone> {
+    if let Opened::Stdin(_) = from.opened {
+        let mut nothing = [0u8; 0];
+        input::read(from, &mut nothing)?;
+        if let Ok(again) = open_stdin(rt) {
+            return Ok(again);
         }
     }
+    let file = spool::copy(rt, from)?;
+    Ok(Again { file, start: 0 })
 }
 
-// The open file, to be read again from its place on; none where it cannot be, which is said.
+// The open file, to be read again from its place on; says so where it cannot be.
 pub fn make(
     rt: &(impl Files<File = File> + RandomSource),
     command: Command,
     file: Opened,
     path: &[u8],
-) -> Option<Again> {
+) -> Result<Again, NotDone> {
     match file.place() {
-        Ok(start) => Some(Again { file, start }),
-        Err(error) => {
-            if error.kind() == ErrorKind::NotSeekable {
-                return of_stream(rt, command, &file, path);
-            }
-            input::say_unread(command, path, error);
-            None
+        Ok(start) => Ok(Again { file, start }),
+        Err(error) if error.kind() == ErrorKind::NotSeekable => {
+            let opened = &file;
+            of_stream(
+                rt,
+                Input {
+                    command,
+                    opened,
+                    path,
+                },
+            )
         }
+        Err(error) => Err(input::say_unread(command, path, error)),
     }
 }

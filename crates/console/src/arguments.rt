@@ -13,41 +13,32 @@ const ENAMETOOLONG: i32 = 36;
 // So many words are counted; no program takes as many.
 const MOST_WORDS: usize = 8;
 
-// Puts a word at the start of the buffer, and answers its length.
-pub fn word(rt: &impl Env, number: usize, buffer: &mut [u8]) -> Result<usize>
-    ensures { IfOk result (λ count. count ≤ length buffer.new) }
+// A word, put at the start of the buffer.
+pub fn word<'a>(rt: &impl Env, number: usize, buffer: &'a mut [u8]) -> Result<&'a [u8]>
+    ensures { IfOk result (λ word. length word.now ≤ length buffer.old) }
 {
     match rt.arg(number, buffer) {
-        Ok(length) => Ok(length),
+        Ok(length) => Ok(&buffer[..length]),
         Err(FillError::NotPresent) => Err(Error::from_raw_os_error(EINVAL)),
         Err(FillError::TooLong) => Err(Error::from_raw_os_error(ENAMETOOLONG)),
     }
 }
 
 // The same; a word that is missing or too long is taken as an empty one.
-pub fn word_or_none(rt: &impl Env, number: usize, buffer: &mut [u8]) -> usize
-    ensures { result ≤ length buffer.new }
+pub fn word_or_empty<'a>(rt: &impl Env, number: usize, buffer: &'a mut [u8]) -> &'a [u8]
+    ensures { length result.now ≤ length buffer.old }
 {
-    match word(rt, number, buffer) {
-        Ok(length) => length,
-        Err(_) => 0,
-    }
+    word(rt, number, buffer).unwrap_or(b"")
 }
 
 fn is_there(rt: &impl Env, number: usize) -> bool {
     let mut first = [0u8; 1];
-    match rt.arg(number, &mut first) {
-        Err(FillError::NotPresent) => false,
-        _ => true,
-    }
+    !matches!(rt.arg(number, &mut first), Err(FillError::NotPresent))
 }
 
 // How many words there are, the program's own name among them.
 pub fn count(rt: &impl Env) -> usize {
-    for number in 0..MOST_WORDS {
-        if !is_there(rt, number) {
-            return number;
-        }
-    }
-    MOST_WORDS
+    (0..MOST_WORDS)
+        .take_while(|number| is_there(rt, *number))
+        .count()
 }

@@ -1,26 +1,29 @@
 // A file that is read piece by piece into a buffer.
-ghost use Rattle.std.specs.Prelude.{◌≤◌, length};
+ghost use Rattle.std.specs.Prelude.{◌≤◌, length, IfOk};
 
 use crate::opened::Opened;
 use crate::say;
 use crate::say::Command;
+use crate::status::NotDone;
 use std::fs::{File, OpenOptions};
-use std::io::{Error, Result, Stdin};
+use std::io;
+use std::io::{Error, Stdin};
 use std::rt::Files;
 use streams::Window;
 
 // The system's number for an error: bytes that are no text.
 pub(crate) const EILSEQ: i32 = 84;
 
-// What was read: nothing, because the file cannot be read, or so many bytes.
+// The open file that a command reads, and its name.
 #[derive(Clone, Copy)]
-pub enum Read {
-    Failed,
-    Got(usize),
+pub struct Input<'a> {
+    pub command: Command,
+    pub opened: &'a Opened,
+    pub path: &'a [u8],
 }
 
 // Opens the file with that name for reading. (The system's names are bytes, those of std text.)
-fn open_named(rt: &impl Files<File = File>, path: &[u8]) -> Result<File> {
+fn open_named(rt: &impl Files<File = File>, path: &[u8]) -> io::Result<File> {
     match std::str::from_utf8(path) {
         Ok(name) => OpenOptions::new().read(true).open(rt, name),
         Err(_) => Err(Error::from_raw_os_error(EILSEQ)),
@@ -33,51 +36,38 @@ pub fn open(
     stdin: Stdin,
     command: Command,
     path: &[u8],
-) -> Option<Opened> {
-    if check::same(path, b"-") {
-        return Some(Opened::Stdin(stdin));
+) -> Result<Opened, NotDone> {
+    if path == b"-".as_slice() {
+        return Ok(Opened::Stdin(stdin));
     }
     match open_named(rt, path) {
-        Ok(file) => Some(Opened::File(file)),
-        Err(error) => {
-            say::file_failed(command, b"cannot open: ", path, error);
-            None
-        }
+        Ok(file) => Ok(Opened::File(file)),
+        Err(error) => Err(say::file_failed(command, "cannot open", path, error)),
     }
 }
 
 // Says that the file cannot be read.
-pub fn say_unread(command: Command, path: &[u8], error: Error) {
-    if check::same(path, b"-") {
-        say::failed(command, b"cannot read standard input", error);
-        return;
+pub fn say_unread(command: Command, path: &[u8], error: Error) -> NotDone {
+    if path == b"-".as_slice() {
+        return say::failed(command, "cannot read standard input", error);
     }
-    say::file_failed(command, b"cannot read: ", path, error);
+    say::file_failed(command, "cannot read", path, error)
 }
 
-// Reads bytes of the file into the buffer, after the first `held`.
-fn read_after(command: Command, from: &Opened, path: &[u8], buffer: &mut [u8], held: usize) -> Read
-    requires { held ≤ length buffer.old }
+// Reads bytes of the file into the buffer; says so where it cannot.
+pub(crate) fn read(input: Input<'_>, buffer: &mut [u8]) -> Result<usize, NotDone>
+    ensures { IfOk result (λ count. count ≤ length buffer.new) }
 {
-    match from.read(&mut buffer[held..]) {
-        Ok(got) => Read::Got(got),
-        Err(error) => {
-            say_unread(command, path, error);
-            Read::Failed
-        }
-    }
+    input
+        .opened
+        .read(buffer)
+        .map_err(|error| say_unread(input.command, input.path, error))
 }
 
-// Reads the bytes of the file that the next turn wants.
-pub fn read_on(
-    command: Command,
-    from: &Opened,
-    path: &[u8],
-    window: Window,
-    buffer: &mut [u8],
-) -> Read {
+// Reads the bytes of the file that the next turn wants, after those that the window holds.
+pub fn read_on(input: Input<'_>, window: Window, buffer: &mut [u8]) -> Result<usize, NotDone> {
     if streams::wants_bytes(window, buffer.len()) {
-        return read_after(command, from, path, buffer, window.held);
+        return read(input, &mut buffer[window.held..]);
     }
-    Read::Got(0)
+    Ok(0)
 }

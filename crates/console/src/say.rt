@@ -1,13 +1,34 @@
 // What a program says: words on standard error, after the command that was typed; refusals on standard output.
-use crate::status::Status;
-use crate::{reason, shown};
-use std::io::{Error, ErrorKind, Print, Result};
+ghost use Rattle.std.specs.Prelude.{◌≡◌};
 
-// The descriptor of standard error.
-pub const STDERR_FILENO: i32 = 2;
+use crate::reason::Reason;
+use crate::shown;
+use crate::status::NotDone;
+use refusals::Refusal;
+use std::fmt;
+use std::fmt::Display;
+use std::io::{Error, ErrorKind, Print, Write};
+
+const STDERR_FILENO: i32 = 2;
+
+// Standard error, by its number: std's handle for it would travel through every function that may fail. What cannot be
+// said there is let go.
+#[derive(Clone, Copy)]
+pub(crate) struct Stderr;
+
+impl Write for Stderr {
+    fn write(&mut self, bytes: &[u8]) -> std::io::Result<usize> {
+        io::write_all(STDERR_FILENO, bytes);
+        Ok(bytes.len())
+    }
+
+    fn flush(&mut self) -> std::io::Result<()> {
+        Ok(())
+    }
+}
 
 // The command that was typed.
-#[derive(Clone, Copy)]
+#[derive(Clone, Copy, PartialEq, Eq)]
 pub enum Command {
     Run,
     Trace,
@@ -18,85 +39,78 @@ pub enum Command {
     Start,
 }
 
-fn command_name(command: Command) {
-    match command {
-        Command::Run => {
-            io::write_all(STDERR_FILENO, b"run");
-        }
-        Command::Trace => {
-            io::write_all(STDERR_FILENO, b"trace");
-        }
-        Command::Text => {
-            io::write_all(STDERR_FILENO, b"text");
-        }
-        Command::Play => {
-            io::write_all(STDERR_FILENO, b"play");
-        }
-        Command::Show => {
-            io::write_all(STDERR_FILENO, b"show");
-        }
-        Command::Check => {
-            io::write_all(STDERR_FILENO, b"check");
-        }
-        Command::Start => {
-            io::write_all(STDERR_FILENO, b"start");
-        }
+impl Display for Command {
+    fn fmt<W: fmt::Write>(&self, f: &mut fmt::Formatter<W>) -> fmt::Result {
+        f.write_str(match self {
+            Command::Run => "run",
+            Command::Trace => "trace",
+            Command::Text => "text",
+            Command::Play => "play",
+            Command::Show => "show",
+            Command::Check => "check",
+            Command::Start => "start",
+        })
     }
 }
 
-// Words after the command; a line is not ended.
-pub fn words(command: Command, text: &[u8]) {
-    io::write_all(STDERR_FILENO, b"loopcinder ");
-    command_name(command);
-    io::write_all(STDERR_FILENO, b": ");
-    io::write_all(STDERR_FILENO, text);
+// A line of words after the command.
+pub fn words<D: Display + Drop>(command: Command, words: D) {
+    let _ = writeln!(Stderr, "loopcinder {command}: {words}");
 }
 
-// Words with a number in them: those before it and those after it.
-pub fn numbered(command: Command, before: &[u8], number: u64, after: &[u8]) {
-    words(command, before);
-    io::print_decimal(STDERR_FILENO, number);
-    io::write_all(STDERR_FILENO, after);
+// A line that says how the program is run.
+pub fn usage(words: &str) -> NotDone
+    ensures { result ≡ NotDone.Failed }
+{
+    let _ = writeln!(Stderr, "{words}");
+    NotDone::Failed
 }
 
 // What failed, and why, as the system says it.
-pub fn failed(command: Command, what: &[u8], error: Error) {
-    words(command, b"");
-    reason::say(what, error);
+pub fn failed(command: Command, what: &str, error: Error) -> NotDone
+    ensures { result ≡ NotDone.Failed }
+{
+    words(command, format_args!("{what}: {}", Reason(error)));
+    NotDone::Failed
 }
 
 // What failed with a file, and why, as the system says it.
-pub fn file_failed(command: Command, what: &[u8], path: &[u8], error: Error) {
-    words(command, what);
+pub fn file_failed(command: Command, what: &str, path: &[u8], error: Error) -> NotDone
+    ensures { result ≡ NotDone.Failed }
+{
+    let _ = write!(Stderr, "loopcinder {command}: {what}: ");
     shown::name(path);
-    reason::say(b"", error);
+    let _ = writeln!(Stderr, ": {}", Reason(error));
+    NotDone::Failed
 }
 
 // Standard output cannot be written: says what failed, and why; nothing where nobody reads it any more.
-pub fn unwritten(command: Command, what: &[u8], error: Error) -> Status {
+pub fn unwritten(command: Command, what: &str, error: Error) -> NotDone {
     if error.kind() == ErrorKind::BrokenPipe {
-        return Status::Unread;
+        return NotDone::Unread;
     }
-    failed(command, what, error);
-    Status::Failed
+    failed(command, what, error)
 }
 
-// A refusal's number.
-pub fn refusal(rt: &impl Print, number: u64) -> Result<()> {
-    rt.write_all(b"! ")?;
-    decimal(rt, number)?;
-    rt.write_all(b"\n")
+// Prints a refusal's number.
+pub fn refusal<E: Refusal>(rt: &impl Print, command: Command, refusal: E) -> Result<(), NotDone> {
+    println!(rt; "! {}", refusal.number()).map_err(|error| unwritten(
+        command,
+        "cannot write the output",
+        error,
+    ))
 }
 
-// A refusal's number after that of its line.
-pub fn refusal_at(rt: &impl Print, line: u64, number: u64) -> Result<()> {
-    decimal(rt, line)?;
-    rt.write_all(b" ")?;
-    refusal(rt, number)
-}
-
-fn decimal(rt: &impl Print, number: u64) -> Result<()> {
-    let mut digits = [0u8; 20];
-    let count = io::decimal(number, &mut digits);
-    rt.write_all(&digits[..count])
+// Prints a refusal's number after that of its line.
+pub fn refusal_at<E: Refusal>(
+    rt: &impl Print,
+    command: Command,
+    line: u64,
+    refusal: E,
+) -> Result<(), NotDone> {
+    println!(rt; "{line} ! {}", refusal.number()).map_err(|error| unwritten(
+        command,
+        "cannot write the output",
+        error,
+    ))
 }

@@ -1,35 +1,28 @@
 // Bytes of files and their names as they are shown on standard error: what would not be seen, by its number.
-use crate::say::STDERR_FILENO;
-use buffers::text::lowercase_digit;
-
-fn number(byte: u8) {
-    let shown = [
-        b'\\',
-        b'x',
-        lowercase_digit(byte / 16),
-        lowercase_digit(byte),
-    ];
-    io::write_all(STDERR_FILENO, &shown);
-}
-
-fn byte(byte: u8, seen: bool) {
-    if !seen {
-        number(byte);
-        return;
-    }
-    let shown = [byte];
-    io::write_all(STDERR_FILENO, &shown);
-}
+use crate::say::Stderr;
+use std::fmt;
+use std::fmt::Display;
+use std::io::Write;
 
 // Whether a byte is a letter, a digit or another sign of ASCII.
 fn is_sign(byte: u8) -> bool {
-    32 <= byte && byte < 127
+    matches!(byte, b' '..=b'~')
 }
 
 // Text of which every byte matters: all but ASCII by its number.
-pub fn text(bytes: &[u8]) {
-    for i in 0..bytes.len() {
-        byte(bytes[i], is_sign(bytes[i]));
+#[derive(Clone, Copy)]
+pub struct Text<'a>(pub &'a [u8]);
+
+impl Display for Text<'_> {
+    fn fmt<W: fmt::Write>(&self, f: &mut fmt::Formatter<W>) -> fmt::Result {
+        for &byte in self.0 {
+            if is_sign(byte) {
+                write!(f, "{}", byte as char)?;
+            } else {
+                write!(f, "\\x{byte:02x}")?;
+            }
+        }
+        Ok(())
     }
 }
 
@@ -41,11 +34,15 @@ fn is_control(before: u8, byte: u8) -> bool {
     before == 0xC2 && byte < 160
 }
 
-// A file's name, control characters by their numbers.
+// A file's name on standard error, control characters by their numbers; its other bytes need not be text.
 pub fn name(bytes: &[u8]) {
-    let mut before: u8 = 0;
-    for i in 0..bytes.len() {
-        byte(bytes[i], !is_control(before, bytes[i]));
-        before = bytes[i];
+    let mut before = 0;
+    for &byte in bytes {
+        if is_control(before, byte) {
+            let _ = write!(Stderr, "\\x{byte:02x}");
+        } else {
+            let _ = Stderr.write_all(&[byte]);
+        }
+        before = byte;
     }
 }
