@@ -7,7 +7,7 @@ use Rattle.registers.specs.RegisterFiles.{reset_file}
 use Rattle.hub.specs.declared.Hub.{Hub}
 use Rattle.hub.specs.Hubs.{hub_with}
 use Rattle.origins.specs.declared.RegistersWithOrigins.{RegistersWithOrigins}
-use Rattle.origins.specs.NumberedWrites.{NumberedWrite}
+use Rattle.origins.specs.declared.NumberedWrite.{NumberedWrite}
 use Rattle.origins.specs.KeptOrigins.{start_with, write_numbered_each}
 use Rattle.endstate.specs.declared.findings.Grade.TheVariants.{Meant, Wrong}
 use Rattle.endstate.specs.Findings.{ClashFinding, nothing_found}

@@ -10,7 +10,8 @@ use Rattle.registers.specs.declared.power_up.PowerUp.{PowerUp}
 use Rattle.registers.specs.PowerUps.{power_up_file}
 use Rattle.hub.specs.declared.Hub.{Hub}
 use Rattle.hub.specs.Hubs.{hub_with}
-use Rattle.origins.specs.NumberedWrites.{NumberedWrite, unnumbered_writes, NumbersMean}
+use Rattle.origins.specs.declared.NumberedWrite.{NumberedWrite}
+use Rattle.origins.specs.NumberedWrites.{unnumbered_writes, NumbersMean}
 use Rattle.origins.specs.Origins.{Register, IsRegister, value_at, after_each, origin_of, LastReaching, value_from}
 use Rattle.origins.specs.KeptOrigins.{kept_number}
 use Rattle.origins.proofs.Reaching.{reached_offset}

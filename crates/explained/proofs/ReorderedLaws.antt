@@ -10,7 +10,8 @@ use Rattle.hub.specs.declared.Hub.{Hub}
 use Rattle.hub.specs.Hubs.{ArrayLengths, hub_with, hub_at}
 use Rattle.hub.proofs.Hubs.{start_lengths}
 use Rattle.setup.specs.Demand3.{Alike}
-use Rattle.origins.specs.NumberedWrites.{NumberedWrite, unnumbered_writes}
+use Rattle.origins.specs.declared.NumberedWrite.{NumberedWrite}
+use Rattle.origins.specs.NumberedWrites.{unnumbered_writes}
 use Rattle.origins.specs.Origins.{FileOfBytes}
 use Rattle.origins.proofs.FileBytes.{power_up_of_bytes}
 use Rattle.ordering.specs.Layouts.{joined_blocks, run_writes}

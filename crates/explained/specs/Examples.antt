@@ -5,7 +5,7 @@ use Rattle.laws.specs.Reply.{Reply, given, on_reply}
 use Rattle.laws.specs.Texts.{ascii}
 use Rattle.registers.specs.declared.power_up.PowerUp.TheVariants.{Boot}
 use Rattle.registers.specs.RegisterMap.{MAX_FRM_LO, SER_ALIAS_ID}
-use Rattle.origins.specs.NumberedWrites.{NumberedWrite}
+use Rattle.origins.specs.declared.NumberedWrite.{NumberedWrite}
 use Rattle.origins.specs.Origins.{Register, shared_register, port_register, value_at}
 use Rattle.origins.specs.KeptOrigins.{kept_number}
 use Rattle.scriptwrites.specs.NumberedCalls.{numbered_calls}

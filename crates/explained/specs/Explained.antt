@@ -9,7 +9,7 @@ use Rattle.registers.specs.declared.power_up.PowerUp.{PowerUp}
 use Rattle.registers.specs.PowerUps.{power_up_file}
 use Rattle.hub.specs.Hubs.{is_hub_address}
 use Rattle.origins.specs.declared.RegistersWithOrigins.{RegistersWithOrigins}
-use Rattle.origins.specs.NumberedWrites.{NumberedWrite}
+use Rattle.origins.specs.declared.NumberedWrite.{NumberedWrite}
 use Rattle.origins.specs.Origins.{Register, offset_of, IsRegister, value_at, NoneReaches, LastReaching}
 use Rattle.origins.specs.KeptOrigins.{kept_number, write_numbered_each, start_with}
 use Rattle.script.specs.Reading.{script_trace}

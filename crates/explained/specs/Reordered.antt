@@ -7,7 +7,8 @@ use Rattle.registers.specs.declared.power_up.PowerUp.{PowerUp}
 use Rattle.hub.specs.declared.Hub.{Hub}
 use Rattle.hub.specs.Hubs.{ArrayLengths}
 use Rattle.setup.specs.Demand3.{Alike}
-use Rattle.origins.specs.NumberedWrites.{NumberedWrite, unnumbered_writes}
+use Rattle.origins.specs.declared.NumberedWrite.{NumberedWrite}
+use Rattle.origins.specs.NumberedWrites.{unnumbered_writes}
 use Rattle.origins.specs.Origins.{FileOfBytes}
 use Rattle.ordering.specs.Orders.{order_of}
 use Rattle.ordering.specs.Layouts.{joined_blocks, Layout, run_writes}

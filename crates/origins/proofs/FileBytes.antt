@@ -12,7 +12,8 @@ use Rattle.registers.specs.PowerUps.{boot_file, power_up_file}
 use Rattle.registers.specs.Bursts.{write_each}
 use Rattle.registers.proofs.RegisterMap.{reset_byte_lem}
 use Rattle.registers.proofs.RegisterFiles.{reset_lengths}
-use Rattle.origins.specs.NumberedWrites.{NumberedWrite, unnumbered_writes}
+use Rattle.origins.specs.declared.NumberedWrite.{NumberedWrite}
+use Rattle.origins.specs.NumberedWrites.{unnumbered_writes}
 use Rattle.origins.specs.Origins.{Register, shared_register, port_register, IsRegister, value_at}
 use Rattle.origins.specs.Origins.{reaches, after_numbered, FileOfBytes, ResetOfBytes, PowerUpOfBytes, BytesKept}
 use Rattle.origins.proofs.OneWrite.{counts, value_byte}

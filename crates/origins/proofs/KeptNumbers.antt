@@ -3,7 +3,7 @@
 use Rattle.std.proofs.Common.{◌≡◌, ℕ, sym, refl, ap, ◌∙◌, arith}
 use mathlib.Core.Option.{Option, none, some}
 use Rattle.laws.proofs.Absurd.{zero_not_one}
-use Rattle.origins.specs.NumberedWrites.{NumberedWrite}
+use Rattle.origins.specs.declared.NumberedWrite.{NumberedWrite}
 use Rattle.origins.specs.Origins.{origin_of, OriginIsLast}
 use Rattle.origins.specs.KeptOrigins.{kept_number, write_numbered_each, start_with, number_of}
 use Rattle.origins.specs.KeptOrigins.{NumberMeans, EveryNumberMeans}

@@ -13,7 +13,8 @@ use Rattle.registers.specs.Bursts.{burst_writes, write_each}
 use Rattle.registers.proofs.Bursts.{burst_writes_lem}
 use Rattle.origins.specs.declared.OffsetOrigins.{OffsetOrigins}
 use Rattle.origins.specs.declared.RegistersWithOrigins.{RegistersWithOrigins}
-use Rattle.origins.specs.NumberedWrites.{NumberedWrite, unnumbered_writes, numbered_burst}
+use Rattle.origins.specs.declared.NumberedWrite.{NumberedWrite}
+use Rattle.origins.specs.NumberedWrites.{unnumbered_writes, numbered_burst}
 use Rattle.origins.specs.Origins.{Register, shared_register, port_register, offset_of, IsRegister}
 use Rattle.origins.specs.Origins.{reaches, after_numbered, later_or, origin_of}
 use Rattle.origins.specs.KeptOrigins.{no_origins, past_last, port_origin, number_in, kept_number, number_after, port_after, origins_after}

@@ -7,7 +7,8 @@ use mathlib.Core.Option.{Option, none, some}
 use Rattle.laws.proofs.Absurd.{zero_not_one}
 use Rattle.registers.specs.declared.RegisterFile.{RegisterFile}
 use Rattle.registers.specs.Bursts.{write_each}
-use Rattle.origins.specs.NumberedWrites.{NumberedWrite, unnumbered_writes}
+use Rattle.origins.specs.declared.NumberedWrite.{NumberedWrite}
+use Rattle.origins.specs.NumberedWrites.{unnumbered_writes}
 use Rattle.origins.specs.Origins.{Register, reaches, after_numbered, after_each, later_or, origin_of}
 use Rattle.origins.specs.Origins.{NoneReaches, LastReaching, EveryOriginIsLast}
 

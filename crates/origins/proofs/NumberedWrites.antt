@@ -4,7 +4,8 @@ use Rattle.std.proofs.Common.{◌≡◌, ℕ, List, [], ◌∷◌, ◌++◌, ref
 use mathlib.Core.List.Memᴰ
 use mathlib.Core.List.{Memᴰ}
 use Rattle.registers.specs.Bursts.{RegisterWrite}
-use Rattle.origins.specs.NumberedWrites.{NumberedWrite, unnumbered, unnumbered_writes, numbered_as}
+use Rattle.origins.specs.declared.NumberedWrite.{NumberedWrite}
+use Rattle.origins.specs.NumberedWrites.{unnumbered, unnumbered_writes, numbered_as}
 
 -- of lists one after the other
 pub unnumbered_append : (a b : List NumberedWrite)

@@ -8,7 +8,8 @@ use Rattle.registers.specs.declared.RegisterFile.{RegisterFile}
 use Rattle.registers.specs.declared.PageAccess.TheVariants.{Selection}
 use Rattle.registers.specs.RegisterMap.{mask_of}
 use Rattle.registers.specs.Bursts.{write_each}
-use Rattle.origins.specs.NumberedWrites.{NumberedWrite, unnumbered_writes}
+use Rattle.origins.specs.declared.NumberedWrite.{NumberedWrite}
+use Rattle.origins.specs.NumberedWrites.{unnumbered_writes}
 use Rattle.origins.specs.Origins.{Register, offset_of, IsRegister, value_at, reaches}
 use Rattle.origins.specs.Origins.{after_numbered, after_each, later_or, origin_of, value_from, OriginExplains}
 use Rattle.origins.proofs.Reaching.{offset_byte, reached_offset}

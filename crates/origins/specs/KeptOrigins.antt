@@ -8,7 +8,8 @@ use Rattle.registers.specs.declared.PageAccess.TheVariants.{Selection}
 use Rattle.registers.specs.Bursts.{write_burst}
 use Rattle.origins.specs.declared.OffsetOrigins.{OffsetOrigins}
 use Rattle.origins.specs.declared.RegistersWithOrigins.{RegistersWithOrigins}
-use Rattle.origins.specs.NumberedWrites.{NumberedWrite, numbered_burst}
+use Rattle.origins.specs.declared.NumberedWrite.{NumberedWrite}
+use Rattle.origins.specs.NumberedWrites.{numbered_burst}
 use Rattle.origins.specs.Origins.{Register, shared_register, port_register, offset_of, IsRegister}
 use Rattle.origins.specs.Origins.{reaches, after_numbered, after_each, origin_of, NoneReaches, LastReaching}
 

@@ -3,7 +3,7 @@
 use Rattle.std.specs.Prelude.{ℕ, List, [], ◌∷◌}
 use mathlib.Core.List.{Memᴰ}
 use Rattle.registers.specs.Bursts.{RegisterWrite, burst_writes}
-pub use Rattle.origins.specs.declared.NumberedWrite.{NumberedWrite}
+use Rattle.origins.specs.declared.NumberedWrite.{NumberedWrite}
 
 -- the write without its number, and so each of a list
 abbrev pub unnumbered : NumberedWrite → RegisterWrite

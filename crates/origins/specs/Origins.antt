@@ -12,7 +12,8 @@ use Rattle.registers.specs.declared.power_up.PowerUp.{PowerUp}
 use Rattle.registers.specs.RegisterFiles.{shared_at, page_at, reset_file, selection, write_register}
 use Rattle.registers.specs.PowerUps.{power_up_file}
 use Rattle.registers.specs.Bursts.{write_each}
-use Rattle.origins.specs.NumberedWrites.{NumberedWrite, unnumbered_writes}
+use Rattle.origins.specs.declared.NumberedWrite.{NumberedWrite}
+use Rattle.origins.specs.NumberedWrites.{unnumbered_writes}
 
 -- "every shared register and every register of each port"
 pub data Register : Type 0 where

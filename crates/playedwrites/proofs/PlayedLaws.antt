@@ -22,7 +22,8 @@ use Rattle.hub.specs.declared.Hub.{Hub}
 use Rattle.hub.specs.Hubs.{hub_with, hub_at, is_hub_address, creation_with, hub_burst, hub_read}
 use Rattle.hub.proofs.Hubs.{burst_registers}
 use Rattle.translation.specs.Translation.{who_hears_write, who_answers_read}
-use Rattle.origins.specs.NumberedWrites.{NumberedWrite, unnumbered_writes, numbered_burst}
+use Rattle.origins.specs.declared.NumberedWrite.{NumberedWrite}
+use Rattle.origins.specs.NumberedWrites.{unnumbered_writes, numbered_burst}
 use Rattle.origins.specs.Origins.{after_each}
 use Rattle.origins.proofs.NumberedWrites.{unnumbered_append, unnumbered_as}
 use Rattle.frames.specs.Events.{Event, start_event, pixel_line_event, end_event, event_reply, hub_after, buffer_after}

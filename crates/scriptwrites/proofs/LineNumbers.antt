@@ -13,7 +13,8 @@ use lib.Dec.{eqb}
 use lib.ListN.{get_or}
 use Rattle.laws.proofs.Absurd.{zero_not_one}
 use Rattle.registers.specs.Bursts.{RegisterWrite}
-use Rattle.origins.specs.NumberedWrites.{NumberedWrite, unnumbered, numbered_as, NumbersMean}
+use Rattle.origins.specs.declared.NumberedWrite.{NumberedWrite}
+use Rattle.origins.specs.NumberedWrites.{unnumbered, numbered_as, NumbersMean}
 use Rattle.origins.proofs.NumberedWrites.{numbered_in, in_numbered}
 use Rattle.calls.specs.Grammar.{Blanks, BlankLine, IsScriptLine, blank, called}
 use Rattle.calls.proofs.LineLaws.{lines_taken}

@@ -11,7 +11,8 @@ use Rattle.laws.specs.Reply.{Reply, refused_at, refused_with, given, on_reply}
 use Rattle.laws.proofs.Absurd.{zero_not_one}
 use Rattle.laws.proofs.Replies.{refused_given, on_given}
 use Rattle.registers.specs.Bursts.{RegisterWrite}
-use Rattle.origins.specs.NumberedWrites.{NumberedWrite, unnumbered_writes, numbered_as}
+use Rattle.origins.specs.declared.NumberedWrite.{NumberedWrite}
+use Rattle.origins.specs.NumberedWrites.{unnumbered_writes, numbered_as}
 use Rattle.origins.proofs.NumberedWrites.{unnumbered_append, unnumbered_as}
 use Rattle.calls.specs.Grammar.{IsScriptLine, blank, called}
 use Rattle.script.specs.Reading.{parts_of, script_line_reply, rest_reply, joined_to, script_line_then, is_last, calls_from, script_calls}

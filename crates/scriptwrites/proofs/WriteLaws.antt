@@ -18,7 +18,8 @@ use Rattle.laws.proofs.Replies.{joined_none, joined_twice}
 use Rattle.streams.specs.Streams.{way_from, TurnInput, all_turns, AllLend, Result, ByWindows}
 use Rattle.streams.proofs.StreamLaws.{however_read}
 use Rattle.registers.specs.Bursts.{RegisterWrite}
-use Rattle.origins.specs.NumberedWrites.{NumberedWrite, numbered_as}
+use Rattle.origins.specs.declared.NumberedWrite.{NumberedWrite}
+use Rattle.origins.specs.NumberedWrites.{numbered_as}
 use Rattle.script.specs.Grammar.{longest_script_line}
 use Rattle.script.specs.Traces.{write_records}
 use Rattle.script.specs.Reading.{rest_reply, parts_of}

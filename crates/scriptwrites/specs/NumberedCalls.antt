@@ -3,7 +3,8 @@
 use Rattle.std.specs.Prelude.{◌≡◌, cond, List, [], ◌∷◌, ◌++◌, ℕ, suc, ◌-◌, ◌≤◌, ◌<◌, get_or}
 use Rattle.laws.specs.Reply.{Reply, refused_at, refused_with, given, on_reply}
 use Rattle.registers.specs.Bursts.{RegisterWrite}
-use Rattle.origins.specs.NumberedWrites.{NumberedWrite, unnumbered, unnumbered_writes, numbered_as, NumbersMean}
+use Rattle.origins.specs.declared.NumberedWrite.{NumberedWrite}
+use Rattle.origins.specs.NumberedWrites.{unnumbered, unnumbered_writes, numbered_as, NumbersMean}
 use Rattle.calls.specs.Grammar.{IsScriptLine}
 use Rattle.script.specs.Reading.{parts_of, script_line_reply, rest_reply, is_last, script_calls}
 

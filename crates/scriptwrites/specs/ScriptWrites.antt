@@ -6,7 +6,7 @@ use Rattle.laws.specs.Reply.{on_reply}
 use Rattle.laws.specs.Buffers.{written}
 use Rattle.streams.specs.Streams.{after_read, nothing_left, Work, Way, way_from, TurnInput, all_turns}
 use Rattle.streams.specs.Streams.{StandsAt, ReadGave, IsNextTurn}
-use Rattle.origins.specs.NumberedWrites.{NumberedWrite}
+use Rattle.origins.specs.declared.NumberedWrite.{NumberedWrite}
 use Rattle.script.specs.Grammar.{longest_script_line}
 use Rattle.scriptlines.specs.declared.ScriptFile.{ScriptFile}
 use Rattle.scriptlines.specs.TakenLines.{LinesDone, done_of, LinesState}

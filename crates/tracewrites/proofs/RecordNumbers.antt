@@ -16,7 +16,8 @@ use Rattle.laws.proofs.Absurd.{zero_not_one}
 use Rattle.laws.proofs.Replies.{given_same}
 use Rattle.registers.specs.Bursts.{burst_writes}
 use Rattle.hub.specs.Hubs.{is_hub_address}
-use Rattle.origins.specs.NumberedWrites.{NumberedWrite, unnumbered, numbered_burst}
+use Rattle.origins.specs.declared.NumberedWrite.{NumberedWrite}
+use Rattle.origins.specs.NumberedWrites.{unnumbered, numbered_burst}
 use Rattle.origins.proofs.NumberedWrites.{numbered_in, in_numbered}
 use Rattle.trace.specs.Framing.{record_length}
 use Rattle.trace.specs.Records.{TraceRecord, hub_record, write_record, read_record, write_question, read_question}

@@ -3,7 +3,7 @@
 use Rattle.std.specs.Prelude.{◌≡◌, List, [], ◌∷◌, ◌++◌, ℕ}
 use Rattle.laws.specs.Reply.{refused_at, given}
 use Rattle.registers.specs.declared.power_up.PowerUp.TheVariants.{Boot, Reset}
-use Rattle.origins.specs.NumberedWrites.{NumberedWrite}
+use Rattle.origins.specs.declared.NumberedWrite.{NumberedWrite}
 use Rattle.trace.specs.Framing.{record_bytes}
 use Rattle.tracewrites.specs.TraceWrites.{trace_writes}
 

@@ -7,7 +7,8 @@ use Rattle.registers.specs.declared.power_up.PowerUp.{PowerUp}
 use Rattle.registers.specs.declared.power_up.PowerUp.TheVariants.{Boot}
 use Rattle.registers.specs.Bursts.{burst_writes}
 use Rattle.hub.specs.Hubs.{is_hub_address}
-use Rattle.origins.specs.NumberedWrites.{NumberedWrite, unnumbered, numbered_burst, NumbersMean}
+use Rattle.origins.specs.declared.NumberedWrite.{NumberedWrite}
+use Rattle.origins.specs.NumberedWrites.{unnumbered, numbered_burst, NumbersMean}
 use Rattle.trace.specs.Framing.{record_length}
 use Rattle.trace.specs.Records.{TraceRecord, hub_record, write_record, read_record, write_question, read_question}
 use Rattle.trace.specs.Records.{start_record, end_record, pixel_line_record, record_of}
