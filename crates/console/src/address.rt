@@ -2,20 +2,16 @@
 use crate::say;
 use crate::say::Command;
 use crate::status::NotDone;
+use calls::digit;
 use refusals::Refusal;
 use std::io::Print;
-
-fn digit(byte: u8) -> Option<u8> {
-    let digit = calls::digit::value(byte);
-    if digit < 16 { Some(digit) } else { None }
-}
 
 // The address as 3D or 0x3D.
 pub fn of_word(word: &[u8]) -> Option<u8> {
     match word {
         [high, low] | [b'0', b'x', high, low] => {
-            let high = digit(*high)?;
-            let low = digit(*low)?;
+            let high = digit::value(*high)?;
+            let low = digit::value(*low)?;
             Some(high << 4 | low)
         }
         _ => None,

@@ -1,7 +1,5 @@
 // A file that is read more than once: as it is, where it has a place to go back to; standard input opened again, where
 // it is a file; or a copy.
-ghost use Rattle.std.specs.Prelude.{◌≤◌, length};
-
 use crate::input::Input;
 use crate::opened::{ESPIPE, Opened};
 use crate::say::Command;
