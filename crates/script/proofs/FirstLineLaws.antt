@@ -14,14 +14,16 @@ use lib.Seq.{take-suc, take_all, take-append-le, split_at, length-take-le}
 use Rattle.laws.specs.Reply.{Reply, refused, refused_at, refused_with, given, on_reply}
 use Rattle.laws.proofs.Replies.{on_given, refused_given}
 use Rattle.registers.specs.Bursts.{RegisterWrite}
-use Rattle.calls.specs.declared.ScriptLine.{ScriptLine}
-use Rattle.calls.specs.declared.ScriptLine.TheVariants.{OtherShape, Blank, Call as CallFound}
+use Rattle.std.specs.Prelude.{Option as Answer, Result, Ok, Err}
+use Rattle.calls.specs.declared.Call.{Call}
+use Rattle.calls.specs.declared.OtherShape.{OtherShape}
 use Rattle.calls.specs.Grammar.{all, IsScriptLine, blank, called}
 use Rattle.calls.specs.ScriptLines.{script_line_read, calls_of}
-use Rattle.script.specs.declared.text.NextScriptLine.{NextScriptLine}
+use Rattle.script.specs.declared.LineRefusal.{LineRefusal}
+use Rattle.script.specs.declared.text.TakenLine.{TakenLine}
 use Rattle.script.specs.Grammar.{no_line_feed, longest_script_line}
 use Rattle.script.specs.Reading.{shape_reply, script_line_reply, rest_reply, joined_to, script_line_then, parts_of, calls_from}
-use Rattle.script.specs.FirstLines.{script_line_length, holds_script_line, LineWithCalls, first_line_reply, calls_in, next_line_reply}
+use Rattle.script.specs.FirstLines.{script_line_length, holds_script_line, LineWithCalls, first_line_reply, taken_line_reply}
 use Rattle.script.specs.PrivateContracts.{FirstScriptLine, NextScriptLineOf}
 use Rattle.script.proofs.PartLaws.{parts_next, parts_last, calls_next, calls_last}
 use Rattle.script.proofs.GrammarLaws.{given_line}
@@ -34,18 +36,6 @@ all_more test text place h a b = rw (add-one place, take-suc text place 0 h) (on
     one_more : (l : List ℕ) → all test l ≡ true → all test (l ++ (get_or text place 0 ∷ [])) ≡ true
     one_more [] e = rw b
     one_more (x ∷ l) e = let k = (and-eq-true_iff (test x) (all test l)).0 e in rw k.0 (one_more l k.1)
-
--- a line by what it was read as: its calls, where it has none of another shape
-pub shape_taken : (read : ScriptLine) → (read ≡ OtherShape → ⊥) → shape_reply (calls_of read) ≡ given (calls_in read)
-shape_taken OtherShape h = absurd (h refl)
-shape_taken Blank h = refl
-shape_taken (CallFound offset value) h = refl
-
--- and none where it has no call
-pub no_call : (read : ScriptLine) → ((offset value : ℕ) → read ≡ CallFound offset value → ⊥) → calls_in read ≡ []
-no_call OtherShape h = refl
-no_call Blank h = refl
-no_call (CallFound offset value) h = absurd (h offset value refl)
 
 -- the definition's length is that of the first line
 pub first_found : (bytes : List ℕ) → FirstScriptLine bytes (script_line_length bytes)
@@ -132,7 +122,7 @@ module _ (bytes : List ℕ) (n : ℕ) (first : FirstScriptLine bytes n) where
         either_line (λ r. r ≡ refused 14) bytes n first (λ h. absurd (omega arith)) (λ h. rw (le-ltb longest_script_line n short))
 
     -- a line by its shape
-    pub line_shape : n < length bytes → (read : ScriptLine) → calls_of read ≡ script_line_read (take n bytes)
+    pub line_shape : n < length bytes → (read : Result (Answer Call) OtherShape) → calls_of read ≡ script_line_read (take n bytes)
         → first_line_reply bytes ≡ on_reply (λ (calls : List RegisterWrite). record { count = n; calls = calls }) (shape_reply (calls_of read))
     unfolding script_line_reply
     line_shape more read e =
@@ -200,11 +190,11 @@ not_zero bytes e =
     shape false (some calls) = omega arith
 
 -- what the first line comes to, for each case of the answer
-pub next_line_of : (text : List ℕ) → 0 < length text → (next : NextScriptLine) → next_line_reply next ≡ first_line_reply text → NextScriptLineOf text next
-next_line_of text byte NextScriptLine.TooLong e = λ number. calls_first text byte number ∙ rw (sym e)
-next_line_of text byte NextScriptLine.OtherShape e = λ number. calls_first text byte number ∙ rw (sym e)
-next_line_of text byte (NextScriptLine.Taken count read) e =
+pub next_line_of : (text : List ℕ) → 0 < length text → (next : Result TakenLine LineRefusal) → taken_line_reply next ≡ first_line_reply text
+    → NextScriptLineOf text next
+next_line_of text byte (Ok line) e =
     record { within = (first_given text (sym e)).0; calls = λ number. calls_first text byte number ∙ rw (sym e) }
+next_line_of text byte (Err refusal) e = λ number. calls_first text byte number ∙ rw (sym e)
 
 -- the length of the first line with more bytes after it
 length_more : (bytes rest : List ℕ) → script_line_length bytes < length bytes → script_line_length (bytes ++ rest) ≡ script_line_length bytes

@@ -2,23 +2,23 @@
 -- Assumes nothing.
 use mathlib.Core.Path.{◌≡◌, refl, ap, ◌∙◌}
 use mathlib.Core.List.{List, [], ◌++◌, append-nil}
+use mathlib.Core.Bool.{true}
 use Prim.Native.Nat.{ℕ, suc, ◌+◌, ◌≤◌}
 use lib.ListN.{length, drop, drop_of_length-le}
 use lib.Seq.{drop-drop}
+use Rattle.std.specs.Prelude.{Option, Some, None, is_some}
 use Rattle.laws.specs.Reply.{refused_at, given}
 use Rattle.laws.proofs.Replies.{joined_none, joined_twice}
+use Rattle.laws.proofs.Absurd.{zero_not_one}
 use Rattle.registers.specs.Bursts.{RegisterWrite}
-use Rattle.calls.specs.declared.ScriptLine.{ScriptLine}
-use Rattle.script.specs.declared.text.NextScriptLine.{NextScriptLine}
+use Rattle.calls.specs.declared.Call.{Call}
+use Rattle.calls.specs.ScriptLines.{calls_in}
 use Rattle.script.specs.Reading.{rest_reply, joined_to, parts_of, calls_from, script_calls}
-use Rattle.script.specs.PrivateContracts.{NextScriptLineOf}
 
--- a line that is not taken is refused
-pub next_refused : (text : List ℕ) (next : NextScriptLine) → NextScriptLineOf text next → ((count : ℕ) (read : ScriptLine) → next ≡ NextScriptLine.Taken count read → ⊥)
-    → (refusal : ℕ) × ((number : ℕ) → calls_from number (parts_of text) ≡ refused_at refusal number)
-next_refused text NextScriptLine.TooLong e h = (15, e)
-next_refused text NextScriptLine.OtherShape e h = (14, e)
-next_refused text (NextScriptLine.Taken count read) e h = absurd (h count read refl)
+-- a line that has a call has one
+pub one_call : (call : Option Call) → is_some call ≡ true → length (calls_in call) ≡ 1
+one_call (Some call) e = refl
+one_call None e = zero_not_one (cc)
 
 -- The lines up to a place were passed, with their calls: the text's calls are those and the calls from there on.
 pub record Passed (text : List ℕ) (from number : ℕ) (done : List RegisterWrite) : Type 0 where

@@ -1,13 +1,14 @@
 -- The first line of bytes of a script, of which more may follow: whether they hold it whole, and what it comes to.
 -- Assumes nothing.
-use Rattle.std.specs.Prelude.{Bool, true, cond, List, [], ◌∷◌, ℕ, suc, eqb, ltb, length, take}
+use Rattle.std.specs.Prelude.{Bool, true, cond, Result, Ok, Err, List, [], ◌∷◌, ℕ, suc, eqb, ltb, length, take}
 use Rattle.laws.specs.Reply.{Reply, refused, given, on_reply}
 use Rattle.registers.specs.Bursts.{RegisterWrite}
-use Rattle.calls.specs.declared.ScriptLine.{ScriptLine}
-use Rattle.calls.specs.declared.ScriptLine.TheVariants.{OtherShape, Blank, Call as CallFound}
-use Rattle.script.specs.declared.text.NextScriptLine.{NextScriptLine}
+use Rattle.calls.specs.ScriptLines.{calls_in}
+use Rattle.script.specs.declared.LineRefusal.{LineRefusal}
+use Rattle.script.specs.declared.text.TakenLine.{TakenLine}
 use Rattle.script.specs.Grammar.{longest_script_line}
 use Rattle.script.specs.Reading.{script_line_reply}
+use Rattle.script.specs.Refusals.{line_refusal_number}
 
 -- how many bytes stand before the first line feed (code 10), or in all
 unfoldable pub script_line_length : List ℕ → ℕ
@@ -34,22 +35,7 @@ first_line_reply bytes =
     (script_line_reply (take count bytes)))
     (refused (cond (ltb longest_script_line count) 15 14))
 
--- the calls of a line, none where it has another shape
-abbrev pub calls_in : ScriptLine → List RegisterWrite
-calls_in OtherShape = []
-calls_in Blank = []
-calls_in (CallFound offset value) = record { offset = offset; value = value } ∷ []
-
--- (A line that is taken is blank or a call: it has no other shape.)
-abbrev pub HasShape : NextScriptLine → Type 0
-HasShape NextScriptLine.TooLong = Unit {0}
-HasShape NextScriptLine.OtherShape = Unit {0}
-HasShape (NextScriptLine.Taken count OtherShape) = ⊥
-HasShape (NextScriptLine.Taken count Blank) = Unit {0}
-HasShape (NextScriptLine.Taken count (CallFound offset value)) = Unit {0}
-
 -- the paper's number and values for each case of the answer
-abbrev pub next_line_reply : NextScriptLine → Reply LineWithCalls
-next_line_reply NextScriptLine.TooLong = refused 15
-next_line_reply NextScriptLine.OtherShape = refused 14
-next_line_reply (NextScriptLine.Taken count read) = given (record { count = count; calls = calls_in read })
+abbrev pub taken_line_reply : Result TakenLine LineRefusal → Reply LineWithCalls
+taken_line_reply (Ok line) = given (record { count = line.length; calls = calls_in line.call })
+taken_line_reply (Err refusal) = refused (line_refusal_number refusal)

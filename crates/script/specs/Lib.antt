@@ -1,5 +1,6 @@
 pub mod Grammar
 pub mod Traces
+pub mod Refusals
 pub mod Reading
 pub mod FirstLines
 pub mod Laws

@@ -1,6 +1,6 @@
 -- How a text is read: its lines, the calls in them, and the first refusal (L1, L5).
 -- Assumes nothing.
-use Rattle.std.specs.Prelude.{Bool, true, false, cond, List, [], ◌∷◌, ◌++◌, ℕ, suc, eqb, ltb, length}
+use Rattle.std.specs.Prelude.{Bool, true, false, cond, Result, Ok, Err, List, [], ◌∷◌, ◌++◌, ℕ, suc, eqb, ltb, length}
 use Rattle.std.proofs.Math.Option.{Option, none, some}
 use Rattle.laws.specs.Reply.{Reply, refused, refused_at, refused_with, given, on_reply, and_then}
 use Rattle.laws.specs.Buffers.{if_room}
@@ -8,8 +8,9 @@ use Rattle.registers.specs.Bursts.{RegisterWrite}
 use Rattle.registers.specs.declared.power_up.PowerUp.{PowerUp}
 use Rattle.hub.specs.Hubs.{is_hub_address}
 use Rattle.calls.specs.ScriptLines.{script_line_read}
-use Rattle.script.specs.declared.TraceAnswer.{TraceAnswer}
+use Rattle.script.specs.declared.TraceRefusal.{TraceRefusal}
 use Rattle.script.specs.Grammar.{longest_script_line}
+use Rattle.script.specs.Refusals.{line_refusal_number}
 use Rattle.script.specs.Traces.{trace_of}
 
 -- one more byte before the first part
@@ -69,9 +70,8 @@ script_trace address start text size =
     cond (is_hub_address address) (trace_if_room address start size (script_calls text)) (refused 2)
 
 -- the paper's number and values for each case of the answer
-abbrev pub trace_answer_reply : TraceAnswer → Reply ℕ
-trace_answer_reply TraceAnswer.AddressOutOfRange = refused 2
-trace_answer_reply (TraceAnswer.ScriptLineTooLong line) = refused_at 15 line
-trace_answer_reply (TraceAnswer.ScriptLineOtherShape line) = refused_at 14 line
-trace_answer_reply TraceAnswer.NoRoom = refused 8
-trace_answer_reply (TraceAnswer.Trace bytes) = given bytes
+abbrev pub trace_answer_reply : Result ℕ TraceRefusal → Reply ℕ
+trace_answer_reply (Ok bytes) = given bytes
+trace_answer_reply (Err TraceRefusal.AddressOutOfRange) = refused 2
+trace_answer_reply (Err (TraceRefusal.Line line)) = refused_at (line_refusal_number line.refusal) line.line
+trace_answer_reply (Err TraceRefusal.NoRoom) = refused 8

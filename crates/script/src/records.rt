@@ -1,15 +1,14 @@
 // The records of a script's trace, put into a buffer as far as they have room; the answer is the next free place.
 ghost use Rattle.std.specs.Prelude.{◌≡◌, [], ◌∷◌, ◌≤◌};
 ghost use Rattle.buffers.specs.Putting.{Puts};
+ghost use Rattle.calls.specs.ScriptLines.{write_of, calls_in};
 ghost use Rattle.trace.specs.Framing.{record_bytes};
 ghost use Rattle.trace.specs.Records.{hub_data};
 ghost use Rattle.script.specs.Traces.{write_records, hub_length};
-ghost use Rattle.script.specs.FirstLines.{calls_in};
 ghost use Rattle.script.specs.PrivateContracts.{PutsCalls, PutsTrace};
 
 use crate::text;
-use crate::text::NextScriptLine;
-use calls::ScriptLine;
+use calls::Call;
 use registers::power_up::PowerUp;
 
 // The most bytes of a hub record, and the bytes of a write record of one value.
@@ -37,36 +36,36 @@ pub fn put_hub(out: &mut [u8], at: usize, address: u8, start: PowerUp) -> usize
     }
 }
 
-// A write record of one value.
-fn put_write(out: &mut [u8], at: usize, offset: u8, value: u8) -> usize
-    ensures { Puts out.old at (record_bytes 0x01 (offset ∷ value ∷ [])) out.new result }
+// The write record of a call.
+fn put_write(out: &mut [u8], at: usize, call: Call) -> usize
+    ensures { Puts out.old at (write_records (write_of call ∷ [])) out.new result }
 {
-    let record = [0x9A, 0x64, 0x01, 2, offset, value];
-    buffers::put_bytes(out, at, &record)
+    buffers::put_bytes(out, at, &[0x9A, 0x64, 0x01, 2, call.offset, call.value])
 }
 
 // The record of a line's call, where it has one.
-pub fn put_line(out: &mut [u8], at: usize, read: ScriptLine) -> usize
-    ensures { Puts out.old at (write_records (calls_in read)) out.new result }
+pub fn put_line(out: &mut [u8], at: usize, call: Option<Call>) -> usize
+    ensures { Puts out.old at (write_records (calls_in call)) out.new result }
 {
-    let ScriptLine::Call { offset, value } = read else {
-        return at;
-    };
-    put_write(out, at, offset, value)
+    match call {
+        None => at,
+        Some(call) => put_write(out, at, call),
+    }
 }
 
-// The records of the calls of a text that is taken, line by line.
+// The records of the calls of a text that is taken, line by line. (The step of the loop is a line, whose length is
+// known when it was read.)
 fn put_calls(out: &mut [u8], at: usize, text: &[u8]) -> usize
     ensures { PutsCalls text.now out.old at out.new result }
 {
     let mut from = 0;
     let mut next = at;
     while from < text.len() {
-        let NextScriptLine::Taken { length, read } = text::next_script_line(text, from) else {
+        let Ok(line) = text::next_script_line(text, from) else {
             return next;
         };
-        from += length + 1;
-        next = put_line(out, next, read);
+        from += line.length + 1;
+        next = put_line(out, next, line.call);
     }
     next
 }

@@ -2,27 +2,14 @@
 use mathlib.Core.List.{[], ◌++◌}
 use Prim.Native.Nat.{suc, ◌+◌, ◌<◌}
 use native.Mathlib.Omega.{arith}
-use lib.ListN.{length, drop, length-drop}
+use lib.ListN.{length, length-drop}
 use Rattle.laws.proofs.Replies.{given_same}
 use Rattle.buffers.proofs.PutLaws.{put_nothing, put_then_lem}
+use Rattle.calls.specs.ScriptLines.{calls_in}
 use Rattle.script.specs.Traces.{write_records}
-use Rattle.script.specs.FirstLines.{calls_in}
-use Rattle.script.specs.PrivateContracts.{TakenScriptLine}
 use Rattle.script.proofs.TextLaws.{passed_none, passed_more, passed_all}
 use Rattle.script.proofs.TraceLaws.{writes_append}
 use Rattle.script.proofs.records.put_calls.Goals as goal
-use Rattle.script.proofs.records.put_calls.Goals.{In-Taken}
-
--- what the next line comes to, where it is taken
-taken : (c : In-Taken) →
-    let line = c.in-Taken in
-    TakenScriptLine (drop c.loop-from.from c.args.text.now) line.length line.read
-taken c = rw c.in-Taken.is at c.next_script_line.ensures
-
--- it ends inside the text
-inside : (c : In-Taken) →
-    c.loop-from.from + c.in-Taken.length < length c.args.text.now
-inside c = omega (arith, length-drop c.loop-from.from c.args.text.now, (taken c).within)
 
 pub loop-from-init : goal.loop-from-init
 unfolding write_records
@@ -30,11 +17,12 @@ loop-from-init c = let x = c.args in (omega arith, (1, [], passed_none x.text.no
 
 pub loop-from-preserved : goal.loop-from-preserved
 loop-from-preserved c =
-    let line = c.in-Taken in
+    let line = c.in-Ok.line in
+    let taken = c.in-Ok.ensures in
     let p = c.loop-from.invariant.1 in
-    let here = calls_in line.read in
-    let more = passed_more p.2 here line.length ((taken ((goal.at.loop-from-preserved c).In-Taken)).calls p.0) in
-    let within = inside ((goal.at.loop-from-preserved c).In-Taken) in
+    let here = calls_in line.call in
+    let more = passed_more p.2 here line.length (taken.calls p.0) in
+    let within : c.loop-from.from + line.length < length c.args.text.now = omega (arith, length-drop c.loop-from.from c.args.text.now, taken.within) in
     (omega arith, (suc p.0, p.1 ++ here, more, rw (writes_append p.1 here) (put_then_lem p.3 c.put_line-next.ensures)))
 
 pub returns : goal.returns

@@ -10,4 +10,4 @@ pub returns : goal.returns
 returns c =
     let from = c.bytes_from in
     let some : 0 < length from.result.now = omega (arith, ap length from.ensures, length-drop c.args.at c.args.text.now, c.requires) in
-    rw (sym from.ensures) (next_line_of from.result.now some c.first_script_line.result c.first_script_line.ensures.0)
+    rw (sym from.ensures) (next_line_of from.result.now some c.first_script_line.result c.first_script_line.ensures)

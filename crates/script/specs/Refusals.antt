@@ -1,0 +1,16 @@
+-- The papers' numbers of the refusals of a script: L1.
+-- Assumes nothing.
+use Rattle.std.specs.Prelude.{ℕ}
+use Rattle.script.specs.declared.LineRefusal.{LineRefusal}
+use Rattle.script.specs.declared.TraceRefusal.{TraceRefusal}
+
+-- "15, over 200 bytes", "14, another shape"
+abbrev pub line_refusal_number : LineRefusal → ℕ
+line_refusal_number LineRefusal.TooLong = 15
+line_refusal_number LineRefusal.OtherShape = 14
+
+-- "2 for the hub's address, first"; "8 last"
+abbrev pub trace_refusal_number : TraceRefusal → ℕ
+trace_refusal_number TraceRefusal.AddressOutOfRange = 2
+trace_refusal_number (TraceRefusal.Line refused) = line_refusal_number refused.refusal
+trace_refusal_number TraceRefusal.NoRoom = 8
