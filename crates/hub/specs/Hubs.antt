@@ -1,8 +1,8 @@
 -- The hub: its own address, its register file, and what each port keeps of frames.
 -- Assumes nothing.
-use Rattle.std.specs.Prelude.{◌≡◌, Bool, true, false, cond, ◌&&◌, List, ℕ, leb, length, get_or, set, replicate}
+use Rattle.std.specs.Prelude.{◌≡◌, Bool, true, false, cond, ◌&&◌, List, ℕ, leb, length, get_or, set, replicate, Result}
 use Rattle.std.proofs.Math.Option.{Option, none, some}
-use Rattle.laws.specs.Reply.{Reply, refused, given}
+use Rattle.laws.specs.Reply.{Reply, refused, given, reply_by}
 use Rattle.formats.specs.declared.Format.{Format}
 use Rattle.registers.specs.declared.RegisterFile.{RegisterFile}
 use Rattle.registers.specs.declared.PageAccess.TheVariants.{Selection}
@@ -14,9 +14,8 @@ use Rattle.hub.specs.declared.LastFrame.{LastFrame}
 use Rattle.hub.specs.declared.LastFrame.TheVariants.{NoFrame, Closed, Open}
 use Rattle.hub.specs.declared.PortFrames.{PortFrames}
 use Rattle.hub.specs.declared.Hub.{Hub}
-use Rattle.hub.specs.declared.CreationAnswer.{CreationAnswer}
-use Rattle.hub.specs.declared.CreationAnswer.TheVariants.{AddressOutOfRange, Created}
-use Rattle.hub.specs.declared.Creation.{Creation}
+use Rattle.hub.specs.declared.AddressOutOfRange.{AddressOutOfRange}
+use Rattle.hub.specs.Refusals.{address_out_of_range_number}
 
 -- What holds of every value of the type Hub: in a definition an array is a list, and this says how long.
 -- `hub::array_lengths` proves it of any hub.
@@ -65,13 +64,9 @@ creation_with start address = cond (is_hub_address address) (given (hub_with sta
 abbrev pub creation_of : PowerUp → ℕ → Reply Hub
 creation_of start address = creation_with (power_up_file start) address
 
--- the paper's number and value for each case of the answer
-abbrev reply_of : CreationAnswer → Hub → Reply Hub
-reply_of AddressOutOfRange hub = refused 2
-reply_of Created hub = given hub
-
-abbrev pub creation_reply : Creation → Reply Hub
-creation_reply creation = reply_of creation.answer creation.hub
+-- the answer to creating a hub, with the paper's number of the refusal
+abbrev pub creation_reply : Result Hub AddressOutOfRange → Reply Hub
+creation_reply answer = reply_by address_out_of_range_number answer
 
 -- the hub with other registers
 abbrev pub with_registers : Hub → RegisterFile → Hub

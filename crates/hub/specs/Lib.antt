@@ -1,2 +1,3 @@
 pub mod Hubs
+pub mod Refusals
 pub mod Routes

@@ -1,15 +1,16 @@
 -- The route of a port (document 01, "Frames and packets").
 -- Assumes nothing.
-use Rattle.std.specs.Prelude.{cond, ℕ, ◌+◌, ◌/◌, ltb}
+use Rattle.std.specs.Prelude.{cond, ℕ, ◌+◌, ◌/◌, ltb, Option, Some, None, Result}
 use Rattle.laws.specs.Bits.{digit, bit}
-use Rattle.laws.specs.Reply.{Reply, refused, given}
+use Rattle.laws.specs.Reply.{Reply, refused, given, on_reply, reply_by}
 use Rattle.formats.specs.declared.Format.{Format}
 use Rattle.formats.specs.declared.Format.TheVariants.{Raw10, Raw12}
 use Rattle.registers.specs.declared.RegisterFile.{RegisterFile}
 use Rattle.registers.specs.RegisterMap.{FWD_CTL1, RAW10_ID, RAW12_ID}
 use Rattle.registers.specs.RegisterFiles.{shared_at, page_at}
-use Rattle.hub.specs.declared.forwarding.Route.{Route}
-use Rattle.hub.specs.declared.forwarding.Route.TheVariants.{NoSuchPort, Off, Output}
+use Rattle.hub.specs.declared.forwarding.NoSuchPort.{NoSuchPort}
+use Rattle.hub.specs.declared.forwarding.Output.{Output}
+use Rattle.hub.specs.Refusals.{no_such_port_number}
 
 -- "A port's route is off, or this output with both formats' channels."
 pub data PortRoute : Type 0 where
@@ -38,8 +39,11 @@ port_route file port =
 unfoldable pub route_of : RegisterFile → ℕ → Reply PortRoute
 route_of file port = cond (ltb 3 port) (refused 1) (given (port_route file port))
 
--- the paper's number and values for each case of the answer
-abbrev pub route_reply : Route → Reply PortRoute
-route_reply NoSuchPort = refused 1
-route_reply Off = given off
-route_reply (Output csi raw10 raw12) = given (output csi raw10 raw12)
+-- a route as the function answers it
+abbrev pub as_route : Option Output → PortRoute
+as_route None = off
+as_route (Some answer) = output answer.csi answer.raw10_vc answer.raw12_vc
+
+-- the answer, with the paper's number of the refusal
+abbrev pub route_reply : Result (Option Output) NoSuchPort → Reply PortRoute
+route_reply answer = on_reply as_route (reply_by no_such_port_number answer)

@@ -2,10 +2,12 @@
 #![tactic(auto)]
 
 ghost use Rattle.std.specs.Prelude.{◌≡◌};
-ghost use Rattle.hub.specs.Hubs.{ArrayLengths, is_hub_address, hub_with, hub_at, creation_reply, creation_of};
+ghost use Rattle.hub.specs.Hubs.{ArrayLengths, is_hub_address, hub_with, creation_reply, creation_of};
+ghost use Rattle.hub.specs.Refusals.{address_out_of_range_number};
 ghost use Rattle.hub.specs.Hubs.{hub_burst, hub_read, port_frames, with_port_frames};
 
 use formats::Format;
+use refusals::Refusal;
 use registers::power_up::PowerUp;
 use registers::{PageAccess, RegisterFile, power_up};
 
@@ -19,7 +21,7 @@ pub enum LastFrame {
     Open(Format, u16),
 }
 
-// What a port keeps of frames.
+// What a port keeps of frames: a struct of one field, so that what it keeps beside the last frame has one place.
 #[derive(Clone, Copy)]
 pub struct PortFrames {
     pub last: LastFrame,
@@ -32,33 +34,29 @@ pub struct Hub {
     pub frames: [PortFrames; 4],
 }
 
-// Whether the address may be a hub's own.
+// The address may not be a hub's own.
 #[derive(Clone, Copy)]
-pub enum CreationAnswer {
-    AddressOutOfRange,
-    Created,
-}
+pub struct AddressOutOfRange;
 
-// The answer, and beside it the hub, which is one to use only where the answer is Created. (An enum does not hold an
-// array.)
-#[derive(Clone, Copy)]
-pub struct Creation {
-    pub answer: CreationAnswer,
-    pub hub: Hub,
+impl Refusal for AddressOutOfRange {
+    ghost number = { address_out_of_range_number };
+
+    fn number(self) -> u8 {
+        2
+    }
 }
 
 // Whether the address may be a hub's own.
+#[tactic(auto, unfolding(crate::specs::Hubs::is_hub_address))]
 pub fn is_hub_address(address: u8) -> bool
     ensures { result ≡ is_hub_address address }
 {
-    if address < 0x08 {
-        return false;
-    }
-    address <= 0x77
+    (0x08..=0x77).contains(&address)
 }
 
 // A hub with an own address, the registers that it starts with and four ports that have had no frame.
-fn hub_with(address: u8, registers: RegisterFile) -> Hub
+#[tactic(auto, unfolding(crate::specs::Hubs::hub_with))]
+pub fn hub_with(address: u8, registers: RegisterFile) -> Hub
     ensures { result ≡ hub_with registers address }
 {
     let port = PortFrames {
@@ -72,20 +70,14 @@ fn hub_with(address: u8, registers: RegisterFile) -> Hub
 }
 
 // A hub with an own address, as it starts.
-pub fn new(address: u8, start: PowerUp) -> Creation
-    ensures { (creation_reply result ≡ creation_of start address) × (result.hub ≡ hub_at start address) }
+#[tactic(auto, unfolding(crate::specs::Hubs::creation_with))]
+pub fn new(address: u8, start: PowerUp) -> Result<Hub, AddressOutOfRange>
+    ensures { creation_reply result ≡ creation_of start address }
 {
-    let hub = hub_with(address, power_up::registers_at(start));
-    if is_hub_address(address) {
-        return Creation {
-            answer: CreationAnswer::Created,
-            hub,
-        };
+    if !is_hub_address(address) {
+        return Err(AddressOutOfRange);
     }
-    Creation {
-        answer: CreationAnswer::AddressOutOfRange,
-        hub,
-    }
+    Ok(hub_with(address, power_up::registers_at(start)))
 }
 
 // The hub as it is. What is promised beside it holds of every value of the type: the arrays have their lengths.
@@ -96,6 +88,7 @@ pub fn array_lengths(hub: Hub) -> Hub
 }
 
 // A burst of register writes to the hub, under the page selection.
+#[tactic(auto, unfolding(crate::specs::Hubs::hub_burst))]
 pub fn burst(hub: Hub, offset: u8, values: &[u8]) -> Hub
     ensures { result ≡ hub_burst hub offset values.now }
 {
@@ -107,6 +100,7 @@ pub fn burst(hub: Hub, offset: u8, values: &[u8]) -> Hub
 }
 
 // The register at `offset` as the bus reads it, under the page selection.
+#[tactic(auto, unfolding(crate::specs::Hubs::hub_read))]
 pub fn read(hub: Hub, offset: u8) -> u8
     ensures { result ≡ hub_read hub offset }
 {
