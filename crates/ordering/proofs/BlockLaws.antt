@@ -5,7 +5,8 @@ use Rattle.laws.specs.Bits.{bit}
 use Rattle.registers.specs.RegisterMap.{FPD3_PORT_SEL}
 use Rattle.registers.specs.Bursts.{burst_writes, AllPerPort}
 use Rattle.setup.specs.SetupBlocks.{block_writes, IsSetupBlock, selection_written, selects}
-use Rattle.origins.specs.NumberedWrites.{NumberedWrite, unnumbered_writes}
+use Rattle.origins.specs.declared.NumberedWrite.{NumberedWrite}
+use Rattle.origins.specs.NumberedWrites.{unnumbered_writes}
 use Rattle.ordering.specs.Layouts.{block_of}
 
 pub block_writes_lem : (ws : List NumberedWrite) → block_writes (block_of ws) ≡ unnumbered_writes ws

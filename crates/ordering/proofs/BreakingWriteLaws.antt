@@ -2,15 +2,14 @@
 -- a selection yet.
 -- Assumes nothing.
 use Rattle.std.proofs.Common.{◌≡◌, ℕ, ◌<◌, Bool, true, false, cond, not, ◌&&◌, List, [], ◌∷◌, length, refl, ap, ◌∙◌}
-use mathlib.Core.Option.{Option, none, some}
+use mathlib.Core.Option.{Option as Maybe, none, some}
 use Rattle.laws.specs.Bits.{bit}
-use Rattle.origins.specs.NumberedWrites.{NumberedWrite}
+use Rattle.origins.specs.declared.NumberedWrite.{NumberedWrite}
 use Rattle.origins.specs.Origins.{later_or}
 use Rattle.ordering.specs.declared.kinds.WriteKind.{WriteKind}
 use Rattle.ordering.specs.declared.kinds.WriteKind.TheVariants.{NotFollowed, Selection}
 use Rattle.ordering.specs.declared.kinds.WriteKind.TheVariants.{PortRegister, SharedRegister}
-use Rattle.ordering.specs.declared.ticks.LastTick.{LastTick}
-use Rattle.ordering.specs.declared.ticks.LastTick.TheVariants.{Never, At}
+use Rattle.std.specs.Prelude.{Option, None, Some}
 use Rattle.ordering.specs.declared.ticks.Ticks.{Ticks}
 use Rattle.ordering.specs.declared.Phase.{Phase}
 use Rattle.ordering.specs.declared.Phase.TheVariants.{BeforeBlocks, InBlock, AfterShared}
@@ -21,19 +20,18 @@ use Rattle.ordering.specs.Orders.{phase_after, ticks_after, order_step, first_or
 use Rattle.ordering.specs.Orders.{port_twice_now, is_before_blocks, before_selection_now}
 use Rattle.ordering.specs.BreakingWrites.{port_twice, PortTwiceExact, before_selection, BeforeSelectionExact}
 use Rattle.ordering.proofs.TickLaws.{all-length, all-ticked, none_length, none_ticked}
-use Rattle.ordering.proofs.OrderLaws.{step_of}
 
 -- the last tick of a port after writes, where `before` was the last before them
-abbrev tick_after : LastTick → Option NumberedWrite → LastTick
+abbrev tick_after : Option ℕ → Maybe NumberedWrite → Option ℕ
 tick_after before none = before
-tick_after before (some w) = At w.number
+tick_after before (some w) = Some w.number
 
-tick_first : (o : Option NumberedWrite) → tick_after Never o ≡ tick_of o
+tick_first : (o : Maybe NumberedWrite) → tick_after None o ≡ tick_of o
 tick_first none = refl
 tick_first (some w) = refl
 
-tick_choice : (before : LastTick) (b : Bool) (w : NumberedWrite) (later : Option NumberedWrite)
-    → tick_after (cond b (At w.number) before) later ≡ tick_after before (later_or later (cond b (some w) none))
+tick_choice : (before : Option ℕ) (b : Bool) (w : NumberedWrite) (later : Maybe NumberedWrite)
+    → tick_after (cond b (Some w.number) before) later ≡ tick_after before (later_or later (cond b (some w) none))
 tick_choice before true w none = refl
 tick_choice before false w none = refl
 tick_choice before b w (some u) = refl
@@ -50,12 +48,12 @@ module _ (k : WriteKind) (ticks : Ticks) (number value : ℕ) where
 
   after_tick : length ticks.ports ≡ 4 → (port : ℕ) → port < 4
       → last_tick (ticks_after k ticks number value) port
-      ≡ cond (is_selection k && bit port value) (At number) (last_tick ticks port)
+      ≡ cond (is_selection k && bit port value) (Some number) (last_tick ticks port)
   after_tick count port h = go k
     where
       go : (k : WriteKind)
           → last_tick (ticks_after k ticks number value) port
-          ≡ cond (is_selection k && bit port value) (At number) (last_tick ticks port)
+          ≡ cond (is_selection k && bit port value) (Some number) (last_tick ticks port)
       go NotFollowed = refl
       go Selection = all-ticked number value ticks count port h
       go PortRegister = refl
@@ -67,8 +65,8 @@ module _ (port : ℕ) (h : port < 4) where
   unfolding order_after order_step last_ticking
   ticks_after_lem order count [] = refl
   ticks_after_lem order count (w ∷ ws) =
-      ticks_after_lem (step_of order w) (after_length (kind w) order.ticks w.number w.value ∙ count) ws
-      ∙ ap (λ (t : LastTick). tick_after t (last_ticking port ws))
+      ticks_after_lem (order_step order w) (after_length (kind w) order.ticks w.number w.value ∙ count) ws
+      ∙ ap (λ (t : Option ℕ). tick_after t (last_ticking port ws))
       (after_tick (kind w) order.ticks w.number w.value count port h)
       ∙ tick_choice (last_tick order.ticks port) (ticks_port port w) w (last_ticking port ws)
 
@@ -76,13 +74,13 @@ module _ (port : ℕ) (h : port < 4) where
   unfolding first_order
   ticks_exact ws =
       ticks_after_lem first_order none_length ws
-      ∙ ap (λ (t : LastTick). tick_after t (last_ticking port ws)) (none_ticked port h)
+      ∙ ap (λ (t : Option ℕ). tick_after t (last_ticking port ws)) (none_ticked port h)
       ∙ tick_first (last_ticking port ws)
 
 pub port_twice_exact : PortTwiceExact
 unfolding port_twice_now port_twice
 port_twice_exact port h before w =
-    ap (λ (t : LastTick). cond (ticks_port port w) t Never) (ticks_exact port h before)
+    ap (λ (t : Option ℕ). cond (ticks_port port w) t None) (ticks_exact port h before)
 
 -- whether there was a selection
 phase_step : (k : WriteKind) (p : Phase) → is_before_blocks (phase_after k p) ≡ (is_before_blocks p && not (is_selection k))
@@ -113,7 +111,7 @@ phase_after_lem order [] = same (is_before_blocks order.phase)
     same true = refl
     same false = refl
 phase_after_lem order (w ∷ ws) =
-    phase_after_lem (step_of order w) ws
+    phase_after_lem (order_step order w) ws
     ∙ ap (λ (b : Bool). b && not (any_write is_selection ws)) (phase_step (kind w) order.phase)
     ∙ phase_choice (is_before_blocks order.phase) (is_selection (kind w)) (any_write is_selection ws)
 

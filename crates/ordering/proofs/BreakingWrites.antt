@@ -5,11 +5,11 @@ use mathlib.Core.Bool.{and-true, and-false}
 use Rattle.laws.specs.Bits.{bit}
 use Rattle.laws.proofs.Absurd.{zero_not_one}
 use Rattle.laws.proofs.Bools.{both}
-use Rattle.origins.specs.NumberedWrites.{NumberedWrite}
+use Rattle.origins.specs.declared.NumberedWrite.{NumberedWrite}
 use Rattle.ordering.specs.declared.kinds.WriteKind.{WriteKind}
 use Rattle.ordering.specs.declared.kinds.WriteKind.TheVariants.{NotFollowed, Selection}
 use Rattle.ordering.specs.declared.kinds.WriteKind.TheVariants.{PortRegister, SharedRegister}
-use Rattle.ordering.specs.declared.ticks.LastTick.TheVariants.{Never, At}
+use Rattle.std.specs.Prelude.{None, Some}
 use Rattle.ordering.specs.declared.ticks.Ticks.{Ticks}
 use Rattle.ordering.specs.declared.Phase.{Phase}
 use Rattle.ordering.specs.declared.Phase.TheVariants.{BeforeBlocks, InBlock, AfterShared}
@@ -22,7 +22,7 @@ use Rattle.ordering.specs.Inside.{shared_in_block}
 use Rattle.ordering.specs.BreakingWrites.{port_twice, before_selection, Reason, twice, shared_inside, unselected}
 use Rattle.ordering.specs.BreakingWrites.{BreakingWrite, BreakingWritesExact}
 use Rattle.ordering.proofs.TickLaws.{some_again, any-again}
-use Rattle.ordering.proofs.OrderLaws.{order_at, step_of, order_append, stays_broken}
+use Rattle.ordering.proofs.OrderLaws.{order_at, order_append, stays_broken}
 use Rattle.ordering.proofs.BreakingWriteLaws.{ticks_exact, phase_exact}
 
 -- a write that does not fit decides
@@ -30,7 +30,7 @@ abbrev fits_now : Order → NumberedWrite → Bool
 fits_now order w = fits (kind w) order.phase order.ticks w.value
 
 broken_after : (order : Order) (w : NumberedWrite) (ws : List NumberedWrite) → fits_now order w ≡ false
-    → (order_after (step_of order w) ws).any_order ≡ false
+    → (order_after (order_step order w) ws).any_order ≡ false
 unfolding order_step
 broken_after order w ws e =
     let phase = phase_after (kind w) order.phase in
@@ -40,7 +40,7 @@ broken_after order w ws e =
     ∙ stays_broken phase ticks ws
 
 -- the order after one write more
-order_snoc : (past : List NumberedWrite) (w : NumberedWrite) → order_of (past ++ (w ∷ [])) ≡ step_of (order_of past) w
+order_snoc : (past : List NumberedWrite) (w : NumberedWrite) → order_of (past ++ (w ∷ [])) ≡ order_step (order_of past) w
 unfolding order_after
 order_snoc past w = order_append first_order past (w ∷ [])
 
@@ -164,7 +164,7 @@ find past pending so (w ∷ ws) e =
     go (fits_now (order_of past) w) refl
     (λ next decided rest. find (past ++ (w ∷ [])) next decided ws rest)
   where
-    snoc : order_of (past ++ (w ∷ [])) ≡ step_of (order_of past) w
+    snoc : order_of (past ++ (w ∷ [])) ≡ order_step (order_of past) w
     snoc = order_snoc past w
 
     go : (b : Bool) → fits_now (order_of past) w ≡ b
@@ -197,7 +197,7 @@ after_shared decision ticks (w ∷ ws) e = go (kind w) refl e (λ next. after_sh
     go : (k : WriteKind) → kind w ≡ k → cond (is_of_block k) true (any_write is_of_block ws) ≡ true
         → ((next : Bool) → any_write is_of_block ws ≡ true
         → (order_after (order_at next AfterShared ticks) ws).any_order ≡ false)
-        → (order_after (step_of (order_at decision AfterShared ticks) w) ws).any_order ≡ false
+        → (order_after (order_step (order_at decision AfterShared ticks) w) ws).any_order ≡ false
     go NotFollowed ek q rest =
         ap (λ (k : WriteKind). (order_after (order_by k order w.number w.value) ws).any_order) ek
         ∙ rest (decision && true) q
@@ -209,11 +209,11 @@ after_shared decision ticks (w ∷ ws) e = go (kind w) refl e (λ next. after_sh
 
 module _ (before : List NumberedWrite) (w : NumberedWrite) (after : List NumberedWrite) where
   -- a selection that ticks a port again fits nowhere
-  twice_misfit : (port number : ℕ) → port < 4 → port_twice port before w ≡ At number → fits_now (order_of before) w ≡ false
+  twice_misfit : (port number : ℕ) → port < 4 → port_twice port before w ≡ Some number → fits_now (order_of before) w ≡ false
   unfolding port_twice
   twice_misfit port number h e = go (kind w) (bit port w.value) refl refl e
     where
-      never : {A : Type 0} → Never ≡ At number → A
+      never : {A : Type 0} → None ≡ Some number → A
       never q = zero_not_one (cc)
 
       nowhere : (p : Phase) → any_again (order_of before).ticks w.value ≡ true
@@ -223,7 +223,7 @@ module _ (before : List NumberedWrite) (w : NumberedWrite) (after : List Numbere
       nowhere AfterShared a = refl
 
       go : (k : WriteKind) (b : Bool) → kind w ≡ k → bit port w.value ≡ b
-          → cond (is_selection k && b) (tick_of (last_ticking port before)) Never ≡ At number
+          → cond (is_selection k && b) (tick_of (last_ticking port before)) None ≡ Some number
           → fits_now (order_of before) w ≡ false
       go NotFollowed b ek eb q = never q
       go Selection true ek eb q =
@@ -252,7 +252,7 @@ module _ (before : List NumberedWrite) (w : NumberedWrite) (after : List Numbere
 
   -- after a shared write inside the blocks a later write does not fit
   inside_broken : shared_in_block before w after ≡ true
-      → (order_after (step_of (order_of before) w) after).any_order ≡ false
+      → (order_after (order_step (order_of before) w) after).any_order ≡ false
   unfolding shared_in_block order_step
   inside_broken e =
       let b = both (is_shared (kind w)) (any_write is_selection before && any_write is_of_block after) e in
@@ -264,7 +264,7 @@ module _ (before : List NumberedWrite) (w : NumberedWrite) (after : List Numbere
 
       go : (k : WriteKind) (p : Phase) → kind w ≡ k → (order_of before).phase ≡ p → is_shared k ≡ true
           → is_before_blocks p ≡ false → any_write is_of_block after ≡ true
-          → (order_after (step_of (order_of before) w) after).any_order ≡ false
+          → (order_after (order_step (order_of before) w) after).any_order ≡ false
       go SharedRegister BeforeBlocks ek ep k p later = zero_not_one (cc)
       go SharedRegister InBlock ek ep k p later =
           rw (ek, ep) (after_shared (order.any_order && true) order.ticks after later)
@@ -274,12 +274,12 @@ module _ (before : List NumberedWrite) (w : NumberedWrite) (after : List Numbere
       go Selection q ek ep k p later = zero_not_one (cc)
       go PortRegister q ek ep k p later = zero_not_one (cc)
 
-  reason_breaks : Reason before w after → (order_after (step_of (order_of before) w) after).any_order ≡ false
+  reason_breaks : Reason before w after → (order_after (order_step (order_of before) w) after).any_order ≡ false
   reason_breaks (twice port number h e) = broken_after (order_of before) w after (twice_misfit port number h e)
   reason_breaks (shared_inside e) = inside_broken e
   reason_breaks (unselected e) = broken_after (order_of before) w after (unselected_misfit e)
 
-  order_middle : order_of (before ++ (w ∷ after)) ≡ order_after (step_of (order_of before) w) after
+  order_middle : order_of (before ++ (w ∷ after)) ≡ order_after (order_step (order_of before) w) after
   unfolding order_after
   order_middle = order_append first_order before (w ∷ after)
 

@@ -9,7 +9,8 @@ use Rattle.registers.specs.RegisterMap.{rows, row_in, mask_of, per_port}
 use Rattle.registers.specs.Bursts.{burst_writes}
 use Rattle.setup.specs.SetupBlocks.{Block, StartsWithSelection, block_writes, IsSetupBlock, selection_written}
 use Rattle.setup.specs.SetupBlocks.{selects, selecting}
-use Rattle.origins.specs.NumberedWrites.{NumberedWrite, unnumbered_writes}
+use Rattle.origins.specs.declared.NumberedWrite.{NumberedWrite}
+use Rattle.origins.specs.NumberedWrites.{unnumbered_writes}
 use Rattle.ordering.specs.Kinds.{kind_of, followed, any_write}
 use Rattle.ordering.specs.Ticks.{last_ticking, no_ticks, last_tick, with_tick, with_ticks, ticks_again, any_again}
 use Rattle.ordering.specs.Orders.{order_step, first_order, order_after}

@@ -1,7 +1,7 @@
 -- The writes that are followed, of lists one after another.
 -- Assumes nothing.
 use Rattle.std.proofs.Common.{◌≡◌, Bool, true, false, cond, List, [], ◌∷◌, ◌++◌, refl, ap, ◌∙◌}
-use Rattle.origins.specs.NumberedWrites.{NumberedWrite}
+use Rattle.origins.specs.declared.NumberedWrite.{NumberedWrite}
 use Rattle.ordering.specs.Kinds.{kind, is_followed, followed}
 use Rattle.ordering.specs.Layouts.{joined_blocks, followed_each}
 

@@ -5,7 +5,7 @@ use mathlib.Core.List.Memᴰ
 use mathlib.Core.List.{Memᴰ}
 use mathlib.Core.Option.{Option, none, some}
 use Rattle.laws.proofs.Absurd.{zero_not_one}
-use Rattle.origins.specs.NumberedWrites.{NumberedWrite}
+use Rattle.origins.specs.declared.NumberedWrite.{NumberedWrite}
 use Rattle.origins.specs.Origins.{later_or}
 use Rattle.ordering.specs.Ticks.{ticks_port, last_ticking, LastOf, LastTickingExact}
 

@@ -6,11 +6,11 @@ use mathlib.Core.List.{Memᴰ}
 use Rattle.laws.specs.Bits.{bit}
 use Rattle.registers.specs.Bursts.{AllPerPort}
 use Rattle.setup.specs.SetupBlocks.{Block, IsSetupBlock, selecting}
-use Rattle.origins.specs.NumberedWrites.{NumberedWrite, unnumbered_writes}
+use Rattle.origins.specs.declared.NumberedWrite.{NumberedWrite}
+use Rattle.origins.specs.NumberedWrites.{unnumbered_writes}
 use Rattle.ordering.specs.declared.kinds.WriteKind.{WriteKind}
 use Rattle.ordering.specs.declared.kinds.WriteKind.TheVariants.{Selection, PortRegister, SharedRegister}
-use Rattle.ordering.specs.declared.ticks.LastTick.{LastTick}
-use Rattle.ordering.specs.declared.ticks.LastTick.TheVariants.{Never, At}
+use Rattle.std.specs.Prelude.{Option, None, Some}
 use Rattle.ordering.specs.declared.ticks.Ticks.{Ticks}
 use Rattle.ordering.specs.declared.Phase.{Phase}
 use Rattle.ordering.specs.declared.Phase.TheVariants.{BeforeBlocks, InBlock}
@@ -22,14 +22,14 @@ use Rattle.ordering.specs.Layouts.{block_of, blocks_of, joined_blocks, AllShared
 use Rattle.ordering.specs.Layouts.{AnyOrderExact}
 use Rattle.ordering.proofs.KindLaws.{selection_kind, paged_kind_lem}
 use Rattle.ordering.proofs.TickLaws.{all-length, all-ticked, none_length, none_ticked, again_none, any_by}
-use Rattle.ordering.proofs.OrderLaws.{order_at, step_of, followed_order}
+use Rattle.ordering.proofs.OrderLaws.{order_at, followed_order}
 use Rattle.ordering.proofs.BlockLaws.{block_starts, block_rest, block_selects, no_block}
 use Rattle.ordering.proofs.FollowedLaws.{followed_parts}
 use Rattle.ordering.proofs.LayoutOnly.{room, layout_only}
 
 -- a step, by the kind of the write
 step_by : (order : Order) (w : NumberedWrite) (k : WriteKind) → kind w ≡ k
-    → step_of order w ≡ order_by k order w.number w.value
+    → order_step order w ≡ order_by k order w.number w.value
 unfolding order_step
 step_by order w k e = rw e
 
@@ -89,19 +89,18 @@ module _ (end : List NumberedWrite) (end_shared : AllShared end) where
           left = rw (all-ticked w.number w.value ticks count port h) r.1;
         }
       where
-        go : (b : Bool) (t : LastTick)
+        go : (b : Bool) (t : Option ℕ)
             → length (cond b (block_of (w ∷ lead) ∷ selecting port (blocks_of blocks)) (selecting port (blocks_of blocks)))
             ≤ room t
             → ((b && was_ticked t) ≡ false)
-            × (length (selecting port (blocks_of blocks)) ≤ room (cond b (At w.number) t))
-        go true Never l = (refl, omega arith)
-        go true (At number) l = absurd (omega arith)
+            × (length (selecting port (blocks_of blocks)) ≤ room (cond b (Some w.number) t))
+        go true None l = (refl, omega arith)
+        go true (Some number) l = absurd (omega arith)
         go false t l = (refl, l)
 
     none : any_again ticks w.value ≡ false
     none =
-        any_by ticks w.value (free 0 (omega arith)).once (free 1 (omega arith)).once
-        (free 2 (omega arith)).once (free 3 (omega arith)).once
+        any_by ticks w.value (λ port h. (free port h).once)
 
     fits_selection : (started : Bool)
         → order_by Selection (order_at true (phase_of started) ticks) w.number w.value

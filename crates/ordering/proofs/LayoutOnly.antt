@@ -9,12 +9,12 @@ use Rattle.laws.proofs.Absurd.{zero_not_one}
 use Rattle.registers.specs.RegisterMap.{FPD3_PORT_SEL}
 use Rattle.registers.specs.Bursts.{AllPerPort}
 use Rattle.setup.specs.SetupBlocks.{Block, StartsWithSelection, IsSetupBlock, selecting}
-use Rattle.origins.specs.NumberedWrites.{NumberedWrite, unnumbered_writes}
+use Rattle.origins.specs.declared.NumberedWrite.{NumberedWrite}
+use Rattle.origins.specs.NumberedWrites.{unnumbered_writes}
 use Rattle.ordering.specs.declared.kinds.WriteKind.{WriteKind}
 use Rattle.ordering.specs.declared.kinds.WriteKind.TheVariants.{NotFollowed, Selection}
 use Rattle.ordering.specs.declared.kinds.WriteKind.TheVariants.{PortRegister, SharedRegister}
-use Rattle.ordering.specs.declared.ticks.LastTick.{LastTick}
-use Rattle.ordering.specs.declared.ticks.LastTick.TheVariants.{Never, At}
+use Rattle.std.specs.Prelude.{Option, None, Some}
 use Rattle.ordering.specs.declared.ticks.Ticks.{Ticks}
 use Rattle.ordering.specs.declared.Phase.TheVariants.{BeforeBlocks, InBlock, AfterShared}
 use Rattle.ordering.specs.Kinds.{kind, is_followed, followed}
@@ -28,9 +28,9 @@ use Rattle.ordering.proofs.BlockLaws.{setup_block, block_selects}
 use Rattle.ordering.proofs.FollowedLaws.{followed_kept}
 
 -- how many blocks more may tick a port
-abbrev pub room : LastTick → ℕ
-room Never = 1
-room (At number) = 0
+abbrev pub room : Option ℕ → ℕ
+room None = 1
+room (Some number) = 0
 
 -- what follows a selection: the rest of its block, more blocks, which may tick what `ticks` leaves, and shared writes
 record Rest (ticks : Ticks) (ws : List NumberedWrite) : Type 0 where
@@ -60,9 +60,9 @@ no_more ticks end s =
       end_shared = s;
     }
   where
-    few : (t : LastTick) → 0 ≤ room t
-    few Never = omega arith
-    few (At number) = omega arith
+    few : (t : Option ℕ) → 0 ≤ room t
+    few None = omega arith
+    few (Some number) = omega arith
 
 -- after a shared write that follows a block only shared writes come
 after_shared : (ticks : Ticks) (ws : List NumberedWrite)
@@ -103,11 +103,11 @@ module _ (w : NumberedWrite) (e : kind w ≡ Selection) (ticks : Ticks) (count :
       later : List Block
       later = selecting port (blocks_of (followed_each r.blocks))
 
-      go : (b : Bool) (t : LastTick) → bit port w.value ≡ b → last_tick ticks port ≡ t
-          → length later ≤ room (cond b (At w.number) t)
+      go : (b : Bool) (t : Option ℕ) → bit port w.value ≡ b → last_tick ticks port ≡ t
+          → length later ≤ room (cond b (Some w.number) t)
           → length (cond b (block_of (w ∷ followed r.lead) ∷ later) later) ≤ room t
-      go true Never eb et l = omega arith
-      go true (At number) eb et l =
+      go true None eb et l = omega arith
+      go true (Some number) eb et l =
           let z : was_ticked (last_tick ticks port) ≡ false = none_again ticks w.value new port h eb in
           let y : true ≡ false = ap was_ticked (sym et) ∙ z in
           zero_not_one (cc)

@@ -1,8 +1,6 @@
 pub mod KindLaws
 pub mod TickLaws
 pub mod LastTicking
-pub mod OrderCases
-pub mod InsideCases
 pub mod OrderLaws
 pub mod BlockLaws
 pub mod FollowedLaws

@@ -12,7 +12,8 @@ use Rattle.registers.specs.RegisterMap.{per_port}
 use Rattle.registers.specs.RegisterFiles.{shared_at, write_shared}
 use Rattle.registers.specs.Bursts.{write_each}
 use Rattle.registers.proofs.RegisterFiles.{write_unpaged}
-use Rattle.origins.specs.NumberedWrites.{NumberedWrite, unnumbered_writes}
+use Rattle.origins.specs.declared.NumberedWrite.{NumberedWrite}
+use Rattle.origins.specs.NumberedWrites.{unnumbered_writes}
 use Rattle.origins.specs.Origins.{after_numbered, after_each, FileOfBytes}
 use Rattle.origins.proofs.FileBytes.{bytes_kept}
 use Rattle.ordering.specs.declared.kinds.WriteKind.{WriteKind}

@@ -18,7 +18,8 @@ use Rattle.setup.specs.SetupBlocks.{run_block, run_blocks, SetupBlocks}
 use Rattle.setup.proofs.Runs.{block_registers, all_writes, blocks_registers, after_blocks_lem}
 use Rattle.setup.proofs.Selecting.{reordered}
 use Rattle.setup.proofs.Order.{alike, demand_3}
-use Rattle.origins.specs.NumberedWrites.{NumberedWrite, unnumbered_writes}
+use Rattle.origins.specs.declared.NumberedWrite.{NumberedWrite}
+use Rattle.origins.specs.NumberedWrites.{unnumbered_writes}
 use Rattle.origins.specs.Origins.{after_each, FileOfBytes}
 use Rattle.origins.proofs.NumberedWrites.{unnumbered_append}
 use Rattle.ordering.specs.declared.kinds.WriteKind.TheVariants.{SharedRegister}

@@ -1,9 +1,7 @@
 -- The writes that break a script of setup blocks with no port ticked twice, and why.
 -- Assumes nothing.
-use Rattle.std.specs.Prelude.{◌≡◌, ℕ, ◌<◌, Bool, true, false, cond, not, ◌&&◌, List, ◌∷◌, ◌++◌}
-use Rattle.origins.specs.NumberedWrites.{NumberedWrite}
-use Rattle.ordering.specs.declared.ticks.LastTick.{LastTick}
-use Rattle.ordering.specs.declared.ticks.LastTick.TheVariants.{Never, At}
+use Rattle.std.specs.Prelude.{◌≡◌, ℕ, ◌<◌, Bool, true, false, cond, not, ◌&&◌, List, ◌∷◌, ◌++◌, Option, None, Some}
+use Rattle.origins.specs.declared.NumberedWrite.{NumberedWrite}
 use Rattle.ordering.specs.Kinds.{kind, is_selection, is_port_register, any_write}
 use Rattle.ordering.specs.Ticks.{ticks_port, last_ticking, tick_of}
 use Rattle.ordering.specs.Orders.{order_of, port_twice_now, before_selection_now}
@@ -11,13 +9,13 @@ use Rattle.ordering.specs.Inside.{shared_in_block}
 
 -- `port-twice`: "a write to 0x4C ticks a port that an earlier one ticked: the latest such line and this one, one
 -- finding a port". Of the writes before it the latest such one.
-unfoldable pub port_twice : ℕ → List NumberedWrite → NumberedWrite → LastTick
-port_twice port before w = cond (ticks_port port w) (tick_of (last_ticking port before)) Never
+unfoldable pub port_twice : ℕ → List NumberedWrite → NumberedWrite → Option ℕ
+port_twice port before w = cond (ticks_port port w) (tick_of (last_ticking port before)) None
 
 abbrev pub PortTwiceExact : Type 0
 PortTwiceExact =
     (port : ℕ) → port < 4 → (before : List NumberedWrite) (w : NumberedWrite)
-    → port_twice_now (order_of before) w.offset w.value port ≡ port_twice port before w
+    → port_twice_now (order_of before) w port ≡ port_twice port before w
 
 -- "no selection yet": a per-port register is written, and no write before is a selection
 unfoldable pub before_selection : List NumberedWrite → NumberedWrite → Bool
@@ -30,7 +28,7 @@ BeforeSelectionExact =
 
 -- why a write breaks it
 pub data Reason (before : List NumberedWrite) (w : NumberedWrite) (after : List NumberedWrite) : Type 0 where
-  twice : (port number : ℕ) → port < 4 → port_twice port before w ≡ At number → Reason before w after
+  twice : (port number : ℕ) → port < 4 → port_twice port before w ≡ Some number → Reason before w after
   shared_inside : shared_in_block before w after ≡ true → Reason before w after
   unselected : before_selection before w ≡ true → Reason before w after
 

@@ -1,12 +1,11 @@
 -- Short scripts, decided: two blocks that may be run in any order, and a script for each reason that they may not.
 -- Assumes nothing.
-use Rattle.std.specs.Prelude.{◌≡◌, ℕ, true, false, List, [], ◌∷◌, ◌++◌}
+use Rattle.std.specs.Prelude.{◌≡◌, ℕ, true, false, List, [], ◌∷◌, ◌++◌, None, Some}
 use Rattle.hub.specs.declared.Hub.{Hub}
 use Rattle.hub.specs.Hubs.{ArrayLengths}
 use Rattle.setup.specs.Demand3.{Alike}
-use Rattle.origins.specs.NumberedWrites.{NumberedWrite}
+use Rattle.origins.specs.declared.NumberedWrite.{NumberedWrite}
 use Rattle.origins.specs.Origins.{FileOfBytes}
-use Rattle.ordering.specs.declared.ticks.LastTick.TheVariants.{Never, At}
 use Rattle.ordering.specs.Orders.{order_of}
 use Rattle.ordering.specs.Layouts.{Layout, run_writes}
 use Rattle.ordering.specs.Inside.{shared_in_block}
@@ -51,11 +50,11 @@ pub record SharedBetween : Type 0 where
 -- latest is named
 pub record TickedTwice : Type 0 where
   pub decided : (order_of (pass_through_writes03 ++ (channel1 ++ (write 7 0x4C 0x0E ∷ [])))).any_order ≡ false
-  pub port0 : port_twice 0 (pass_through_writes03 ++ channel1) (write 7 0x4C 0x0E) ≡ Never
-  pub port1 : port_twice 1 (pass_through_writes03 ++ channel1) (write 7 0x4C 0x0E) ≡ At 5
-  pub port2 : port_twice 2 (pass_through_writes03 ++ channel1) (write 7 0x4C 0x0E) ≡ Never
-  pub port3 : port_twice 3 (pass_through_writes03 ++ channel1) (write 7 0x4C 0x0E) ≡ At 2
-  pub latest : port_twice 3 (pass_through_writes03 ++ (write 7 0x4C 0x0E ∷ [])) (write 8 0x4C 0x08) ≡ At 7
+  pub port0 : port_twice 0 (pass_through_writes03 ++ channel1) (write 7 0x4C 0x0E) ≡ None
+  pub port1 : port_twice 1 (pass_through_writes03 ++ channel1) (write 7 0x4C 0x0E) ≡ Some 5
+  pub port2 : port_twice 2 (pass_through_writes03 ++ channel1) (write 7 0x4C 0x0E) ≡ None
+  pub port3 : port_twice 3 (pass_through_writes03 ++ channel1) (write 7 0x4C 0x0E) ≡ Some 2
+  pub latest : port_twice 3 (pass_through_writes03 ++ (write 7 0x4C 0x0E ∷ [])) (write 8 0x4C 0x08) ≡ Some 7
 
 -- a per-port register before the first selection
 pub record NotSelected : Type 0 where

@@ -6,7 +6,8 @@ use Rattle.hub.specs.declared.Hub.{Hub}
 use Rattle.hub.specs.Hubs.{ArrayLengths, hub_burst}
 use Rattle.setup.specs.SetupBlocks.{Burst, Block, StartsWithSelection, SetupBlocks}
 use Rattle.setup.specs.Demand3.{Alike}
-use Rattle.origins.specs.NumberedWrites.{NumberedWrite, unnumbered_writes}
+use Rattle.origins.specs.declared.NumberedWrite.{NumberedWrite}
+use Rattle.origins.specs.NumberedWrites.{unnumbered_writes}
 use Rattle.origins.specs.Origins.{FileOfBytes}
 use Rattle.ordering.specs.declared.kinds.WriteKind.TheVariants.{SharedRegister}
 use Rattle.ordering.specs.Kinds.{kind, followed}

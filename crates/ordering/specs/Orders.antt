@@ -1,19 +1,16 @@
 -- How the code goes through the writes of a script. What it decides: `Layouts` and `BreakingWrites`.
 -- Assumes nothing.
-use Rattle.std.specs.Prelude.{ℕ, Bool, true, false, cond, not, ◌&&◌, List, [], ◌∷◌}
-use Rattle.laws.specs.Bits.{bit}
-use Rattle.origins.specs.NumberedWrites.{NumberedWrite}
+use Rattle.std.specs.Prelude.{ℕ, Bool, true, false, cond, not, ◌&&◌, List, [], ◌∷◌, Option, None}
+use Rattle.origins.specs.declared.NumberedWrite.{NumberedWrite}
 use Rattle.ordering.specs.declared.kinds.WriteKind.{WriteKind}
 use Rattle.ordering.specs.declared.kinds.WriteKind.TheVariants.{NotFollowed, Selection}
 use Rattle.ordering.specs.declared.kinds.WriteKind.TheVariants.{PortRegister, SharedRegister}
-use Rattle.ordering.specs.declared.ticks.LastTick.{LastTick}
-use Rattle.ordering.specs.declared.ticks.LastTick.TheVariants.{Never}
 use Rattle.ordering.specs.declared.ticks.Ticks.{Ticks}
 use Rattle.ordering.specs.declared.Phase.{Phase}
 use Rattle.ordering.specs.declared.Phase.TheVariants.{BeforeBlocks, InBlock, AfterShared}
 use Rattle.ordering.specs.declared.Order.{Order}
-use Rattle.ordering.specs.Kinds.{kind_of, is_selection, is_port_register}
-use Rattle.ordering.specs.Ticks.{no_ticks, last_tick, with_ticks, any_again}
+use Rattle.ordering.specs.Kinds.{kind_of, kind, is_port_register}
+use Rattle.ordering.specs.Ticks.{ticks_port, no_ticks, last_tick, with_ticks, any_again}
 
 -- where the script is after a write
 abbrev pub phase_after : WriteKind → Phase → Phase
@@ -53,8 +50,8 @@ order_by kind order number value =
       ticks = ticks_after kind order.ticks number value;
     }
 
-unfoldable pub order_step : Order → ℕ → ℕ → ℕ → Order
-order_step order number offset value = order_by (kind_of offset) order number value
+unfoldable pub order_step : Order → NumberedWrite → Order
+order_step order w = order_by (kind w) order w.number w.value
 
 unfoldable pub first_order : Order
 first_order = record { any_order = true; phase = BeforeBlocks; ticks = no_ticks }
@@ -62,15 +59,14 @@ first_order = record { any_order = true; phase = BeforeBlocks; ticks = no_ticks 
 -- one write after another
 unfoldable pub order_after : Order → List NumberedWrite → Order
 order_after order [] = order
-order_after order (w ∷ ws) = order_after (order_step order w.number w.offset w.value) ws
+order_after order (w ∷ ws) = order_after (order_step order w) ws
 
 abbrev pub order_of : List NumberedWrite → Order
 order_of ws = order_after first_order ws
 
 -- of a write that comes next: the last selection that ticked the port, where the write ticks it again
-unfoldable pub port_twice_now : Order → ℕ → ℕ → ℕ → LastTick
-port_twice_now order offset value port =
-    cond (is_selection (kind_of offset) && bit port value) (last_tick order.ticks port) Never
+unfoldable pub port_twice_now : Order → NumberedWrite → ℕ → Option ℕ
+port_twice_now order w port = cond (ticks_port port w) (last_tick order.ticks port) None
 
 abbrev pub is_before_blocks : Phase → Bool
 is_before_blocks BeforeBlocks = true

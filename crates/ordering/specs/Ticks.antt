@@ -1,14 +1,11 @@
 -- Which selection ticked a port last.
 -- Assumes nothing.
-use Rattle.std.specs.Prelude.{◌≡◌, ℕ, Bool, true, false, cond, ◌&&◌, ◌||◌, List, [], ◌∷◌, ◌++◌, replicate, slice_index_or, slice_set}
+use Rattle.std.specs.Prelude.{◌≡◌, ℕ, Bool, true, false, cond, ◌&&◌, ◌||◌, List, [], ◌∷◌, ◌++◌, replicate, slice_index_or, slice_set, Option, None, Some}
 use mathlib.Core.List.{Memᴰ}
-use Rattle.std.proofs.Math.Option.{Option, none, some}
+use Rattle.std.proofs.Math.Option.{Option as Maybe, none, some}
 use Rattle.laws.specs.Bits.{bit}
-use Rattle.origins.specs.NumberedWrites.{NumberedWrite}
+use Rattle.origins.specs.declared.NumberedWrite.{NumberedWrite}
 use Rattle.origins.specs.Origins.{later_or}
-use Rattle.ordering.specs.declared.ticks.LastTick.{LastTick}
-use Rattle.ordering.specs.declared.ticks.LastTick.TheVariants.{Never, At}
-use Rattle.ordering.specs.declared.ticks.PortTick.{PortTick}
 use Rattle.ordering.specs.declared.ticks.Ticks.{Ticks}
 use Rattle.ordering.specs.Kinds.{kind, is_selection}
 
@@ -17,7 +14,7 @@ abbrev pub ticks_port : ℕ → NumberedWrite → Bool
 ticks_port port w = is_selection (kind w) && bit port w.value
 
 -- of the writes of a list the last that ticks the port
-unfoldable pub last_ticking : ℕ → List NumberedWrite → Option NumberedWrite
+unfoldable pub last_ticking : ℕ → List NumberedWrite → Maybe NumberedWrite
 last_ticking port [] = none
 last_ticking port (w ∷ ws) = later_or (last_ticking port ws) (cond (ticks_port port w) (some w) none)
 
@@ -39,27 +36,24 @@ abbrev pub LastTickingExact : Type 0
 LastTickingExact = (port : ℕ) (ws : List NumberedWrite) → LastTickingMeans port ws
 
 -- its number
-abbrev pub tick_of : Option NumberedWrite → LastTick
-tick_of none = Never
-tick_of (some w) = At w.number
+abbrev pub tick_of : Maybe NumberedWrite → Option ℕ
+tick_of none = None
+tick_of (some w) = Some w.number
 
-abbrev pub was_ticked : LastTick → Bool
-was_ticked Never = false
-was_ticked (At number) = true
+abbrev pub was_ticked : Option ℕ → Bool
+was_ticked None = false
+was_ticked (Some number) = true
 
 -- How the code keeps it.
-abbrev pub no_tick : PortTick
-no_tick = record { last = Never }
-
 unfoldable pub no_ticks : Ticks
-no_ticks = record { ports = replicate 4 no_tick }
+no_ticks = record { ports = replicate 4 None }
 
-unfoldable pub last_tick : Ticks → ℕ → LastTick
-last_tick ticks port = (slice_index_or ticks.ports port no_tick).last
+unfoldable pub last_tick : Ticks → ℕ → Option ℕ
+last_tick ticks port = slice_index_or ticks.ports port None
 
 unfoldable pub with_tick : Ticks → ℕ → ℕ → ℕ → Ticks
 with_tick ticks number value port =
-    cond (bit port value) (record { ports = slice_set ticks.ports port (record { last = At number }) }) ticks
+    cond (bit port value) (record { ports = slice_set ticks.ports port (Some number) }) ticks
 
 unfoldable pub with_ticks : Ticks → ℕ → ℕ → Ticks
 with_ticks ticks number value =

@@ -5,7 +5,6 @@ ghost use Rattle.ordering.specs.Inside.{first_extent, extent_step, shared_inside
 
 use crate::kinds;
 use crate::kinds::WriteKind;
-use std::num::wrapping_add_u64;
 
 // The writes so far: how many, whether there was a selection, and how many up to the last selection or per-port write.
 #[derive(Clone, Copy)]
@@ -16,6 +15,7 @@ pub struct Extent {
 }
 
 // Before the first write.
+#[tactic(auto, unfolding(crate::specs::Inside::first_extent))]
 pub fn start() -> Extent
     ensures { result ≡ first_extent }
 {
@@ -27,18 +27,13 @@ pub fn start() -> Extent
 }
 
 // One write more. The counts have 64 bits.
+#[tactic(auto, unfolding(crate::specs::Inside::extent_step))]
 pub fn step(extent: Extent, offset: u8) -> Extent
     ensures { result ≡ extent_step extent offset }
 {
-    let count = wrapping_add_u64(extent.count, 1);
-    let started = extent.started;
-    let end = extent.end;
+    let count = extent.count.wrapping_add(1);
     match kinds::kind_of(offset) {
-        WriteKind::NotFollowed => Extent {
-            count,
-            started,
-            end,
-        },
+        WriteKind::NotFollowed | WriteKind::SharedRegister => Extent { count, ..extent },
         WriteKind::Selection => Extent {
             count,
             started: true,
@@ -46,31 +41,19 @@ pub fn step(extent: Extent, offset: u8) -> Extent
         },
         WriteKind::PortRegister => Extent {
             count,
-            started,
             end: count,
-        },
-        WriteKind::SharedRegister => Extent {
-            count,
-            started,
-            end,
+            ..extent
         },
     }
 }
 
 // Of a write that comes next after `before`: whether it goes to a shared register inside the blocks. `whole` is the
 // extent of all writes.
+#[tactic(auto, unfolding(crate::specs::Inside::shared_inside_now))]
 pub fn is_shared_inside(before: Extent, whole: Extent, offset: u8) -> bool
     ensures { result ≡ shared_inside_now before whole offset }
 {
-    match kinds::kind_of(offset) {
-        WriteKind::NotFollowed => false,
-        WriteKind::Selection => false,
-        WriteKind::PortRegister => false,
-        WriteKind::SharedRegister => {
-            if !before.started {
-                return false;
-            }
-            before.count < whole.end
-        }
-    }
+    matches!(kinds::kind_of(offset), WriteKind::SharedRegister)
+        && before.started
+        && before.count < whole.end
 }

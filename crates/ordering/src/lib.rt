@@ -8,7 +8,8 @@ ghost use Rattle.ordering.specs.Orders.{phase_after, fits, ticks_after, order_st
 ghost use Rattle.ordering.specs.Orders.{port_twice_now, before_selection_now};
 
 use crate::kinds::WriteKind;
-use crate::ticks::{LastTick, Ticks};
+use crate::ticks::Ticks;
+use origins::NumberedWrite;
 use registers::bits;
 
 pub mod inside;
@@ -33,6 +34,7 @@ pub struct Order {
 }
 
 // Before the first write.
+#[tactic(auto, unfolding(crate::specs::Orders::first_order))]
 pub fn start() -> Order
     ensures { result ≡ first_order }
 {
@@ -53,13 +55,11 @@ fn phase_after(kind: WriteKind, phase: Phase) -> Phase
         WriteKind::Selection => Phase::InBlock,
         WriteKind::PortRegister => match phase {
             Phase::BeforeBlocks => Phase::BeforeBlocks,
-            Phase::InBlock => Phase::InBlock,
-            Phase::AfterShared => Phase::InBlock,
+            _ => Phase::InBlock,
         },
         WriteKind::SharedRegister => match phase {
-            Phase::BeforeBlocks => Phase::BeforeBlocks,
             Phase::InBlock => Phase::AfterShared,
-            Phase::AfterShared => Phase::AfterShared,
+            _ => phase,
         },
     }
 }
@@ -69,81 +69,57 @@ fn fits(kind: WriteKind, phase: Phase, ticks: Ticks, value: u8) -> bool
     ensures { result ≡ fits kind phase ticks value }
 {
     match kind {
-        WriteKind::NotFollowed => true,
+        WriteKind::NotFollowed | WriteKind::SharedRegister => true,
         WriteKind::Selection => match phase {
-            Phase::BeforeBlocks => !ticks::any_again(ticks, value),
-            Phase::InBlock => !ticks::any_again(ticks, value),
             Phase::AfterShared => false,
+            _ => !ticks::any_again(ticks, value),
         },
-        WriteKind::PortRegister => match phase {
-            Phase::BeforeBlocks => false,
-            Phase::InBlock => true,
-            Phase::AfterShared => false,
-        },
-        WriteKind::SharedRegister => true,
+        WriteKind::PortRegister => matches!(phase, Phase::InBlock),
     }
 }
 
 // Which selection ticked each port last, after a write.
-fn ticks_after(kind: WriteKind, ticks: Ticks, number: u64, value: u8) -> Ticks
-    ensures { result ≡ ticks_after kind ticks number value }
+fn ticks_after(kind: WriteKind, ticks: Ticks, write: NumberedWrite) -> Ticks
+    ensures { result ≡ ticks_after kind ticks write.number write.value }
 {
     match kind {
-        WriteKind::NotFollowed => ticks,
-        WriteKind::Selection => ticks::tick_ports(ticks, number, value),
-        WriteKind::PortRegister => ticks,
-        WriteKind::SharedRegister => ticks,
+        WriteKind::Selection => ticks::tick_ports(ticks, write),
+        _ => ticks,
     }
 }
 
 // One write more.
-pub fn step(order: Order, number: u64, offset: u8, value: u8) -> Order
-    ensures { result ≡ order_step order number offset value }
+#[tactic(auto, unfolding(crate::specs::Orders::order_step))]
+pub fn step(order: Order, write: NumberedWrite) -> Order
+    ensures { result ≡ order_step order write }
 {
-    let kind = kinds::kind_of(offset);
-    let phase = order.phase;
-    let ticks = order.ticks;
-    let fit = fits(kind, phase, ticks, value);
-    let next_phase = phase_after(kind, phase);
-    let next_ticks = ticks_after(kind, ticks, number, value);
+    let kind = kinds::kind_of(write.offset);
+    let fit = fits(kind, order.phase, order.ticks, write.value);
     Order {
         any_order: order.any_order & fit,
-        phase: next_phase,
-        ticks: next_ticks,
+        phase: phase_after(kind, order.phase),
+        ticks: ticks_after(kind, order.ticks, write),
     }
 }
 
 // Of a write that comes next: where it ticks a port that an earlier selection ticked, the latest such one.
-pub fn port_twice(order: Order, offset: u8, value: u8, port: u8) -> LastTick
-    ensures { result ≡ port_twice_now order offset value port }
+#[tactic(auto, unfolding(crate::specs::Orders::port_twice_now))]
+pub fn port_twice(order: Order, write: NumberedWrite, port: u8) -> Option<u64>
+    ensures { result ≡ port_twice_now order write port }
 {
-    match kinds::kind_of(offset) {
-        WriteKind::NotFollowed => LastTick::Never,
-        WriteKind::Selection => {
-            if !bits::is_set(value, port) {
-                return LastTick::Never;
-            }
-            let ticks = order.ticks;
-            ticks::last_tick(ticks, port)
+    match kinds::kind_of(write.offset) {
+        WriteKind::Selection if bits::is_set(write.value, port) => {
+            ticks::last_tick(order.ticks, port)
         }
-        WriteKind::PortRegister => LastTick::Never,
-        WriteKind::SharedRegister => LastTick::Never,
+        _ => None,
     }
 }
 
 // Of a write that comes next: whether it goes to a per-port register, and there was no selection yet.
+#[tactic(auto, unfolding(crate::specs::Orders::before_selection_now))]
 pub fn before_selection(order: Order, offset: u8) -> bool
     ensures { result ≡ before_selection_now order offset }
 {
-    let phase = order.phase;
-    match kinds::kind_of(offset) {
-        WriteKind::NotFollowed => false,
-        WriteKind::Selection => false,
-        WriteKind::PortRegister => match phase {
-            Phase::BeforeBlocks => true,
-            Phase::InBlock => false,
-            Phase::AfterShared => false,
-        },
-        WriteKind::SharedRegister => false,
-    }
+    matches!(kinds::kind_of(offset), WriteKind::PortRegister)
+        && matches!(order.phase, Phase::BeforeBlocks)
 }
