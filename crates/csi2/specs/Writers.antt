@@ -1,14 +1,15 @@
 -- What the writers answer, and when they refuse (document 01, "Refusal numbers").
 -- Assumes nothing.
 use Rattle.std.specs.Prelude.{cond, List, ℕ}
-use Rattle.laws.specs.Reply.{Reply, refused, given}
+use Rattle.laws.specs.Reply.{Reply, refused}
 use Rattle.laws.specs.Buffers.{if_room}
 use Rattle.formats.specs.declared.Format.{Format}
 use Rattle.packing.specs.Raw.{payload_of}
-use Rattle.packing.specs.Packing.{if_width, if_pixels}
+use Rattle.packing.specs.Packing.{pixel_refusal_number, if_width, if_pixels}
 use Rattle.csi2.specs.declared.short.FrameSync.{FrameSync}
-use Rattle.csi2.specs.declared.short.ShortAnswer.{ShortAnswer}
-use Rattle.csi2.specs.declared.long.LongAnswer.{LongAnswer}
+use Rattle.csi2.specs.declared.short.NoRoom.{NoRoom}
+use Rattle.csi2.specs.declared.long.LongRefusal.{LongRefusal}
+use Rattle.csi2.specs.declared.long.LongRefusal.TheVariants.{Pixels, ShortType}
 use Rattle.csi2.specs.Packets.{is_short, header_bytes, sync_identifier, long_packet}
 
 -- a frame start or end: 8
@@ -30,14 +31,11 @@ unfoldable pub pixel_line_reply : Format → List ℕ → ℕ → ℕ → ℕ �
 pixel_line_reply format pixels identifier size place =
     if_pixels format pixels (packet_reply identifier (payload_of format pixels) size place)
 
--- the paper's numbers and values for each case of the answers
-abbrev pub short_answer_reply : ShortAnswer → Reply ℕ
-short_answer_reply ShortAnswer.NoRoom = refused 8
-short_answer_reply (ShortAnswer.Wrote bytes) = given bytes
+-- the paper's numbers
+abbrev pub no_room_number : NoRoom → ℕ
+no_room_number no-room = 8
 
-abbrev pub long_answer_reply : LongAnswer → Reply ℕ
-long_answer_reply LongAnswer.WidthNotAllowed = refused 5
-long_answer_reply LongAnswer.PixelTooLarge = refused 6
-long_answer_reply LongAnswer.ShortType = refused 7
-long_answer_reply LongAnswer.NoRoom = refused 8
-long_answer_reply (LongAnswer.Wrote bytes) = given bytes
+abbrev pub long_refusal_number : LongRefusal → ℕ
+long_refusal_number (Pixels refusal) = pixel_refusal_number refusal
+long_refusal_number ShortType = 7
+long_refusal_number LongRefusal.NoRoom = 8

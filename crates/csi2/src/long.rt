@@ -1,25 +1,46 @@
 // Long packets: the pixel lines of a frame.
 ghost use Rattle.std.specs.Prelude.{◌≡◌, ◌+◌, ◌≤◌, length, take, drop};
+ghost use Rattle.laws.specs.Reply.{reply_by};
 ghost use Rattle.laws.specs.Buffers.{written, Writes};
 ghost use Rattle.crc.specs.Checksum.{crc_of};
 ghost use Rattle.packing.specs.Raw.{payload_of};
 ghost use Rattle.packing.specs.Lengths.{payload_length};
 ghost use Rattle.csi2.specs.Packets.{little_endian, long_packet};
-ghost use Rattle.csi2.specs.Writers.{long_packet_reply, long_answer_reply, pixel_line_reply};
+ghost use Rattle.csi2.specs.declared.long.LongRefusal.TheVariants.{Pixels};
+ghost use Rattle.csi2.specs.Writers.{long_packet_reply, long_refusal_number, pixel_line_reply};
 
 use crate::{header, short};
 use formats::Format;
-use packing::check::PixelCheck;
+use packing::check::PixelRefusal;
 use packing::{check, groups};
+use refusals::Refusal;
 
-// The bytes written, or why none were.
+// Why a long packet or a pixel line is not written.
 #[derive(Clone, Copy)]
-pub enum LongAnswer {
-    WidthNotAllowed,
-    PixelTooLarge,
+pub enum LongRefusal {
+    Pixels(PixelRefusal),
     ShortType,
     NoRoom,
-    Wrote(usize),
+}
+
+impl Refusal for LongRefusal {
+    ghost number = { long_refusal_number };
+
+    fn number(self) -> u8 {
+        match self {
+            LongRefusal::Pixels(refusal) => refusal.number(),
+            LongRefusal::ShortType => 7,
+            LongRefusal::NoRoom => 8,
+        }
+    }
+}
+
+impl From<PixelRefusal> for LongRefusal {
+    ghost from_gives = { λ refusal r. r ≡ Pixels refusal };
+
+    fn from(refusal: PixelRefusal) -> LongRefusal {
+        LongRefusal::Pixels(refusal)
+    }
 }
 
 // Writes the checksum of the `count` bytes after the header's place in `part`.
@@ -55,47 +76,45 @@ fn put_packet_at(buf: &mut [u8], place: usize, format: Format, pixels: &[u16], i
     put_packet(&mut buf[place..], format, pixels, identifier);
 }
 
-// Writes a long packet from the place, whether or not its pixels fit the format; or refuses it and writes nothing.
+// Writes a long packet from the place, whether or not its pixels fit the format; or refuses it and writes nothing. How
+// many bytes were written.
 pub fn write_long_packet(
     format: Format,
     pixels: &[u16],
     identifier: u8,
     buf: &mut [u8],
     place: usize,
-) -> LongAnswer
+) -> Result<usize, LongRefusal>
     ensures { Writes buf.old place
         (long_packet_reply format pixels.now identifier (length buf.old) place)
-        (long_answer_reply result) buf.new }
+        (reply_by long_refusal_number result) buf.new }
 {
     if !check::width_allowed(format, pixels.len()) {
-        return LongAnswer::WidthNotAllowed;
+        return Err(LongRefusal::Pixels(PixelRefusal::WidthNotAllowed));
     }
     if short::is_short(identifier) {
-        return LongAnswer::ShortType;
+        return Err(LongRefusal::ShortType);
     }
     let needed = 6 + packing::payload_length(format, pixels.len() as u16);
     if !buffers::has_room(buf.len(), place, needed) {
-        return LongAnswer::NoRoom;
+        return Err(LongRefusal::NoRoom);
     }
     put_packet_at(buf, place, format, pixels, identifier);
-    LongAnswer::Wrote(needed)
+    Ok(needed)
 }
 
-// Writes a pixel line as a long packet from the place; or refuses it and writes nothing.
+// Writes a pixel line as a long packet from the place; or refuses it and writes nothing. How many bytes were written.
 pub fn write_pixel_line(
     format: Format,
     pixels: &[u16],
     identifier: u8,
     buf: &mut [u8],
     place: usize,
-) -> LongAnswer
+) -> Result<usize, LongRefusal>
     ensures { Writes buf.old place
         (pixel_line_reply format pixels.now identifier (length buf.old) place)
-        (long_answer_reply result) buf.new }
+        (reply_by long_refusal_number result) buf.new }
 {
-    match check::check_pixels(format, pixels) {
-        PixelCheck::WidthNotAllowed => LongAnswer::WidthNotAllowed,
-        PixelCheck::PixelTooLarge => LongAnswer::PixelTooLarge,
-        PixelCheck::Fit => write_long_packet(format, pixels, identifier, buf, place),
-    }
+    check::check_pixels(format, pixels)?;
+    write_long_packet(format, pixels, identifier, buf, place)
 }

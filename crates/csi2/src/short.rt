@@ -1,10 +1,12 @@
 // Short packets: a frame start or a frame end.
 ghost use Rattle.std.specs.Prelude.{◌≡◌, ◌+◌, ◌≤◌, length};
+ghost use Rattle.laws.specs.Reply.{reply_by};
 ghost use Rattle.laws.specs.Buffers.{written, Writes};
 ghost use Rattle.csi2.specs.Packets.{is_short, sync_identifier, header_bytes};
-ghost use Rattle.csi2.specs.Writers.{short_answer_reply, short_reply};
+ghost use Rattle.csi2.specs.Writers.{no_room_number, short_reply};
 
 use crate::header;
+use refusals::Refusal;
 
 // The frame synchronization packets.
 #[derive(Clone, Copy)]
@@ -13,11 +15,16 @@ pub enum FrameSync {
     FrameEnd,
 }
 
-// The bytes written, or why none were.
+// A frame start or end that has no room.
 #[derive(Clone, Copy)]
-pub enum ShortAnswer {
-    NoRoom,
-    Wrote(usize),
+pub struct NoRoom;
+
+impl Refusal for NoRoom {
+    ghost number = { no_room_number };
+
+    fn number(self) -> u8 {
+        8
+    }
 }
 
 // Whether a packet with that data identifier is short.
@@ -46,21 +53,21 @@ fn put_header_at(buf: &mut [u8], place: usize, identifier: u8, n: u16)
 }
 
 // Writes a frame start or end with its number from the place, on the virtual channel of `identifier`; or refuses it
-// and writes nothing.
+// and writes nothing. How many bytes were written.
 pub fn write_short(
     identifier: u8,
     sync: FrameSync,
     number: u16,
     buf: &mut [u8],
     place: usize,
-) -> ShortAnswer
+) -> Result<usize, NoRoom>
     ensures { Writes buf.old place
         (short_reply identifier sync number (length buf.old) place)
-        (short_answer_reply result) buf.new }
+        (reply_by no_room_number result) buf.new }
 {
     if !buffers::has_room(buf.len(), place, 4) {
-        return ShortAnswer::NoRoom;
+        return Err(NoRoom);
     }
     put_header_at(buf, place, sync_identifier(identifier, sync), number);
-    ShortAnswer::Wrote(4)
+    Ok(4)
 }
