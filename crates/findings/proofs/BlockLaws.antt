@@ -7,7 +7,8 @@ use Rattle.registers.specs.declared.RegisterFile.{RegisterFile}
 use Rattle.registers.specs.declared.PageAccess.TheVariants.{Selection}
 use Rattle.registers.specs.RegisterMap.{mask_of, per_port, FPD3_PORT_SEL}
 use Rattle.registers.specs.Bursts.{RegisterWrite, write_each}
-use Rattle.origins.specs.NumberedWrites.{NumberedWrite, unnumbered, unnumbered_writes}
+use Rattle.origins.specs.declared.NumberedWrite.{NumberedWrite}
+use Rattle.origins.specs.NumberedWrites.{unnumbered, unnumbered_writes}
 use Rattle.origins.specs.Origins.{Register, port_register, reaches, after_numbered, after_each, origin_of}
 use Rattle.origins.specs.Origins.{NoneReaches, LastReaching}
 use Rattle.origins.proofs.LastWrites.{every_origin_is_last}

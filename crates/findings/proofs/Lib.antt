@@ -1,4 +1,3 @@
-pub mod OtherEffects
 pub mod SoFarLaws
 pub mod EffectCases
 pub mod AtWriteLaws

@@ -5,12 +5,12 @@ use mathlib.Core.Option.{Option, none, some}
 use Rattle.laws.proofs.Absurd.{zero_not_one}
 use Rattle.laws.proofs.Bools.{both}
 use Rattle.registers.specs.declared.RegisterFile.{RegisterFile}
-use Rattle.origins.specs.NumberedWrites.{NumberedWrite}
+use Rattle.origins.specs.declared.NumberedWrite.{NumberedWrite}
 use Rattle.origins.specs.Origins.{Register, port_register, after_each, origin_of, LastReaching}
 use Rattle.origins.specs.KeptOrigins.{number_of}
 use Rattle.origins.specs.Effects.{changes}
 use Rattle.origins.proofs.LastWrites.{every_origin_is_last}
-use Rattle.findings.specs.declared.replaced.Replacement.TheVariants.{NotReplaced, From}
+use Rattle.std.specs.Prelude.{None, Some}
 use Rattle.findings.specs.Blocks.{blocks_begun, numbered_by_block}
 use Rattle.findings.specs.Replaced.{from_earlier_block, replaced, Replaces, EveryReplaced}
 use Rattle.findings.proofs.BlockLaws.{none_reaches, origin_in_block, own_block, all_blocks}
@@ -69,7 +69,7 @@ module _ (start : RegisterFile) (before : List NumberedWrite) (w : NumberedWrite
             named = sym (ap number_of e) ∙ n;
           }
 
-  only : (number : ℕ) → replaced start before w port ≡ From number → Replaces start before w port number
+  only : (number : ℕ) → replaced start before w port ≡ Some number → Replaces start before w port number
   unfolding replaced
   only number e =
       go (changes (after_each start before) w.offset w.value (own w port))
@@ -81,12 +81,12 @@ module _ (start : RegisterFile) (before : List NumberedWrite) (w : NumberedWrite
       go : (c b : Bool)
           → changes (after_each start before) w.offset w.value (own w port) ≡ c
           → from_earlier_block start before (own w port) ≡ b
-          → cond (c && b) (From n) NotReplaced ≡ From number → Replaces start before w port number
+          → cond (c && b) (Some n) None ≡ Some number → Replaces start before w port number
       go true true ec eb e = let q : n ≡ number = cc in found number ec eb q
       go true false ec eb e = zero_not_one (cc)
       go false b ec eb e = zero_not_one (cc)
 
-  every : (number : ℕ) → Replaces start before w port number → replaced start before w port ≡ From number
+  every : (number : ℕ) → Replaces start before w port number → replaced start before w port ≡ Some number
   unfolding replaced from_earlier_block
   every number r =
       let last = r.last in

@@ -4,7 +4,7 @@ use Rattle.std.proofs.Common.{◌≡◌, ℕ, ◌+◌, ◌^◌, ◌<◌, ◌≤�
 use Rattle.registers.specs.declared.RegisterFile.{RegisterFile}
 use Rattle.registers.specs.RegisterMap.{FPD3_PORT_SEL}
 use Rattle.origins.specs.declared.RegistersWithOrigins.{RegistersWithOrigins}
-use Rattle.origins.specs.NumberedWrites.{NumberedWrite}
+use Rattle.origins.specs.declared.NumberedWrite.{NumberedWrite}
 use Rattle.origins.specs.Origins.{after_each}
 use Rattle.origins.specs.KeptOrigins.{write_numbered, write_numbered_each, start_with}
 use Rattle.origins.proofs.KeptOrigins.{every_origin_kept}

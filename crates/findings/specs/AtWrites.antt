@@ -7,7 +7,7 @@ use Rattle.registers.specs.RegisterMap.{per_port, SER_ALIAS_ID, TARGET_ALIAS_0}
 use Rattle.registers.specs.RegisterFiles.{selection}
 use Rattle.ports.specs.PortMasks.{port_mask}
 use Rattle.origins.specs.declared.effects.Effect.{Effect}
-use Rattle.origins.specs.NumberedWrites.{NumberedWrite}
+use Rattle.origins.specs.declared.NumberedWrite.{NumberedWrite}
 use Rattle.origins.specs.Origins.{shared_register, port_register, is_writable, reaches, after_each, FileOfBytes}
 use Rattle.origins.specs.Effects.{changes, ignores_bits}
 use Rattle.findings.specs.ByEffect.{is_not_followed, is_no_port, reached_by, ignores_by, keeps_all_by}
@@ -63,39 +63,39 @@ odd_alias start before w =
     is_alias_register w.offset && (any_port (ports_reached (after_each start before) w.offset) && is_odd w.value)
 
 -- How the code finds an odd alias.
-unfoldable pub odd_alias_by : Effect → ℕ → ℕ → Bool
-odd_alias_by effect offset value = is_alias_register offset && (any_port (reached_by effect) && is_odd value)
+unfoldable pub odd_alias_by : Effect → NumberedWrite → Bool
+odd_alias_by effect w = is_alias_register w.offset && (any_port (reached_by effect) && is_odd w.value)
 
 -- What the code says of a write, by what it knows after the writes before, is what the sentence says of it.
 abbrev pub PortsReachedExact : Type 0
 PortsReachedExact =
     (start : RegisterFile) (before : List NumberedWrite) (w : NumberedWrite)
-    → reached_by (effect_now (so_far start before) w.offset w.value)
+    → reached_by (effect_now (so_far start before) w)
     ≡ ports_reached (after_each start before) w.offset
 
 abbrev pub NotFollowedExact : Type 0
 NotFollowedExact =
     (start : RegisterFile) (before : List NumberedWrite) (w : NumberedWrite)
-    → is_not_followed (effect_now (so_far start before) w.offset w.value) ≡ not_followed w
+    → is_not_followed (effect_now (so_far start before) w) ≡ not_followed w
 
 abbrev pub NoPortExact : Type 0
 NoPortExact =
     (start : RegisterFile) (before : List NumberedWrite) (w : NumberedWrite)
-    → is_no_port (effect_now (so_far start before) w.offset w.value) ≡ no_port start before w
+    → is_no_port (effect_now (so_far start before) w) ≡ no_port start before w
 
 abbrev pub BitsIgnoredExact : Type 0
 BitsIgnoredExact =
     (start : RegisterFile) (before : List NumberedWrite) (w : NumberedWrite)
-    → ignores_by (effect_now (so_far start before) w.offset w.value) ≡ bits_ignored start before w
+    → ignores_by (effect_now (so_far start before) w) ≡ bits_ignored start before w
 
 -- (`FileOfBytes` holds of every value of the type RegisterFile, and an offset is a byte.)
 abbrev pub NoChangeExact : Type 0
 NoChangeExact =
     (start : RegisterFile) → FileOfBytes start → (before : List NumberedWrite) (w : NumberedWrite) → w.offset < 256
-    → keeps_all_by (effect_now (so_far start before) w.offset w.value) ≡ no_change start before w
+    → keeps_all_by (effect_now (so_far start before) w) ≡ no_change start before w
 
 abbrev pub OddAliasExact : Type 0
 OddAliasExact =
     (start : RegisterFile) (before : List NumberedWrite) (w : NumberedWrite)
-    → odd_alias_by (effect_now (so_far start before) w.offset w.value) w.offset w.value
+    → odd_alias_by (effect_now (so_far start before) w) w
     ≡ odd_alias start before w

@@ -3,7 +3,7 @@
 -- Assumes nothing.
 use Rattle.std.specs.Prelude.{ℕ, ◌+◌, Bool, cond, ◌&&◌, List, [], ◌∷◌, ◌==◌, nat_lt}
 use Rattle.registers.specs.RegisterMap.{FPD3_PORT_SEL}
-use Rattle.origins.specs.NumberedWrites.{NumberedWrite}
+use Rattle.origins.specs.declared.NumberedWrite.{NumberedWrite}
 
 -- the block that a write to an offset stands in, where the write before it stands in `block`
 abbrev pub block_number : ℕ → ℕ → ℕ

@@ -1,9 +1,8 @@
 -- Short scripts on a hub after reset, and what is found in them.
 -- Assumes nothing.
-use Rattle.std.specs.Prelude.{◌≡◌, ℕ, true, false, List, [], ◌∷◌, ◌++◌}
+use Rattle.std.specs.Prelude.{◌≡◌, ℕ, true, false, List, [], ◌∷◌, ◌++◌, None, Some}
 use Rattle.registers.specs.RegisterFiles.{reset_file}
-use Rattle.origins.specs.NumberedWrites.{NumberedWrite}
-use Rattle.findings.specs.declared.replaced.Replacement.TheVariants.{NotReplaced, From}
+use Rattle.origins.specs.declared.NumberedWrite.{NumberedWrite}
 use Rattle.findings.specs.AtWrites.{not_followed, no_port, bits_ignored, no_change, odd_alias}
 use Rattle.findings.specs.Replaced.{replaced}
 
@@ -23,12 +22,12 @@ abbrev one_record : List NumberedWrite
 one_record = write 2 0x4C 0x12 ∷ write 3 0x65 0x62 ∷ write 3 0x4C 0x12 ∷ []
 
 pub record Replacements : Type 0 where
-  pub other_block : replaced reset_file wrong_page (write 5 0x65 0x66) 1 ≡ From 3
-  pub burst : replaced reset_file one_record (write 4 0x65 0x66) 1 ≡ From 3
-  pub other_port : replaced reset_file wrong_page (write 5 0x65 0x66) 0 ≡ NotReplaced
-  pub value_stays : replaced reset_file wrong_page (write 5 0x65 0x62) 1 ≡ NotReplaced
-  pub repeated : replaced reset_file (wrong_page ++ (write 5 0x65 0x62 ∷ [])) (write 6 0x65 0x66) 1 ≡ NotReplaced
-  pub same_block : replaced reset_file first (write 4 0x65 0x66) 1 ≡ NotReplaced
+  pub other_block : replaced reset_file wrong_page (write 5 0x65 0x66) 1 ≡ Some 3
+  pub burst : replaced reset_file one_record (write 4 0x65 0x66) 1 ≡ Some 3
+  pub other_port : replaced reset_file wrong_page (write 5 0x65 0x66) 0 ≡ None
+  pub value_stays : replaced reset_file wrong_page (write 5 0x65 0x62) 1 ≡ None
+  pub repeated : replaced reset_file (wrong_page ++ (write 5 0x65 0x62 ∷ [])) (write 6 0x65 0x66) 1 ≡ None
+  pub same_block : replaced reset_file first (write 4 0x65 0x66) 1 ≡ None
 
 pub record AtWrites : Type 0 where
   pub unticked : no_port reset_file [] (write 1 0x65 0x62) ≡ true

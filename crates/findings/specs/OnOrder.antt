@@ -2,7 +2,7 @@
 -- Assumes nothing.
 use Rattle.std.specs.Prelude.{◌≡◌, ℕ, ◌^◌, ◌<◌, List, ◌∷◌, ◌++◌, length}
 use Rattle.registers.specs.declared.RegisterFile.{RegisterFile}
-use Rattle.origins.specs.NumberedWrites.{NumberedWrite}
+use Rattle.origins.specs.declared.NumberedWrite.{NumberedWrite}
 use Rattle.ordering.specs.Orders.{port_twice_now}
 use Rattle.ordering.specs.Inside.{shared_in_block, shared_inside_now}
 use Rattle.ordering.specs.BreakingWrites.{port_twice}
@@ -13,7 +13,7 @@ use Rattle.findings.specs.WritesSoFar.{so_far}
 abbrev pub PortTwiceFound : Type 0
 PortTwiceFound =
     (start : RegisterFile) (before : List NumberedWrite) (w : NumberedWrite) (port : ℕ) → port < 4
-    → port_twice_now (so_far start before).order w.offset w.value port ≡ port_twice port before w
+    → port_twice_now (so_far start before).order w port ≡ port_twice port before w
 
 -- `shared-in-block`: "a shared register other than 0x4C is written after the first selection, and a selection or a
 -- per-port write follows"

@@ -4,7 +4,7 @@ use Rattle.std.specs.Prelude.{◌≡◌, ℕ, ◌+◌, ◌%◌, ◌^◌, cond, L
 use Rattle.registers.specs.declared.RegisterFile.{RegisterFile}
 use Rattle.registers.specs.RegisterMap.{FPD3_PORT_SEL}
 use Rattle.origins.specs.declared.effects.Effect.{Effect}
-use Rattle.origins.specs.NumberedWrites.{NumberedWrite}
+use Rattle.origins.specs.declared.NumberedWrite.{NumberedWrite}
 use Rattle.origins.specs.KeptOrigins.{write_numbered, write_numbered_each, start_with}
 use Rattle.origins.specs.Effects.{effect_of}
 use Rattle.ordering.specs.Orders.{order_step, first_order, order_of}
@@ -32,7 +32,7 @@ step_so_far before w =
       numbers = write_numbered before.numbers w;
       blocks = write_numbered before.blocks (record { number = block; offset = w.offset; value = w.value });
       block = block;
-      order = order_step before.order w.number w.offset w.value;
+      order = order_step before.order w;
       extent = extent_step before.extent w.offset;
     }
 
@@ -45,8 +45,8 @@ abbrev pub so_far : RegisterFile → List NumberedWrite → WritesSoFar
 so_far start ws = step_each (start_so_far start) ws
 
 -- what the next write does
-abbrev pub effect_now : WritesSoFar → ℕ → ℕ → Effect
-effect_now before offset value = effect_of before.numbers.registers offset value
+abbrev pub effect_now : WritesSoFar → NumberedWrite → Effect
+effect_now before w = effect_of before.numbers.registers w.offset w.value
 
 -- The registers with their origins, the order and the extent are those of `origins` and `ordering`.
 pub record PartsKept (start : RegisterFile) (ws : List NumberedWrite) : Type 0 where

@@ -7,53 +7,39 @@ ghost use Rattle.findings.specs.ByEffect.{is_not_followed, is_no_port, reached_b
 ghost use Rattle.findings.specs.ByEffect.{changes_port};
 
 use crate::WritesSoFar;
-use origins::effects;
 use origins::effects::Effect;
+use origins::{NumberedWrite, effects};
 use registers::{bits, map};
 
 // What the write that comes next does.
-pub fn effect_now(before: WritesSoFar, offset: u8, value: u8) -> Effect
-    ensures { result ≡ effect_now before offset value }
+pub fn effect_now(before: WritesSoFar, write: NumberedWrite) -> Effect
+    ensures { result ≡ effect_now before write }
 {
-    let numbers = before.numbers;
-    effects::effect_of(numbers.registers, offset, value)
+    effects::effect_of(before.numbers.registers, write.offset, write.value)
 }
 
 // `not-followed`: whether no bit of the register is writable.
 pub fn is_not_followed(effect: Effect) -> bool
     ensures { result ≡ is_not_followed effect }
 {
-    if let Effect::NotFollowed = effect {
-        true
-    } else {
-        false
-    }
+    matches!(effect, Effect::NotFollowed)
 }
 
 // `no-port`: whether the register is per-port, and no port is ticked.
 pub fn is_no_port(effect: Effect) -> bool
     ensures { result ≡ is_no_port effect }
 {
-    if let Effect::NoPort = effect {
-        true
-    } else {
-        false
-    }
+    matches!(effect, Effect::NoPort)
 }
 
 // The ports whose register is reached.
 pub fn reached_by(effect: Effect) -> u8
     ensures { result ≡ reached_by effect }
 {
-    let Effect::Ports {
-        reached,
-        changed: _,
-        bits_ignored: _,
-    } = effect
-    else {
-        return 0;
-    };
-    reached
+    match effect {
+        Effect::Ports { reached, .. } => reached,
+        _ => 0,
+    }
 }
 
 // `bits-ignored`: whether a register is reached, and bits of the value are not writable in it.
@@ -61,22 +47,10 @@ pub fn ignores_by(effect: Effect) -> bool
     ensures { result ≡ ignores_by effect }
 {
     match effect {
-        Effect::NotFollowed => false,
-        Effect::NoPort => false,
-        Effect::Selected {
-            ports: _,
-            changed: _,
-            bits_ignored,
-        } => bits_ignored,
-        Effect::Shared {
-            changed: _,
-            bits_ignored,
-        } => bits_ignored,
-        Effect::Ports {
-            reached: _,
-            changed: _,
-            bits_ignored,
-        } => bits_ignored,
+        Effect::NotFollowed | Effect::NoPort => false,
+        Effect::Selected { bits_ignored, .. }
+        | Effect::Shared { bits_ignored, .. }
+        | Effect::Ports { bits_ignored, .. } => bits_ignored,
     }
 }
 
@@ -85,22 +59,9 @@ pub fn keeps_all_by(effect: Effect) -> bool
     ensures { result ≡ keeps_all_by effect }
 {
     match effect {
-        Effect::NotFollowed => false,
-        Effect::NoPort => false,
-        Effect::Selected {
-            ports: _,
-            changed,
-            bits_ignored: _,
-        } => !changed,
-        Effect::Shared {
-            changed,
-            bits_ignored: _,
-        } => !changed,
-        Effect::Ports {
-            reached: _,
-            changed,
-            bits_ignored: _,
-        } => changed == 0,
+        Effect::NotFollowed | Effect::NoPort => false,
+        Effect::Selected { changed, .. } | Effect::Shared { changed, .. } => !changed,
+        Effect::Ports { changed, .. } => changed == 0,
     }
 }
 
@@ -108,15 +69,10 @@ pub fn keeps_all_by(effect: Effect) -> bool
 pub fn changes_port(effect: Effect, port: u8) -> bool
     ensures { result ≡ changes_port effect port }
 {
-    let Effect::Ports {
-        reached: _,
-        changed,
-        bits_ignored: _,
-    } = effect
-    else {
-        return false;
-    };
-    bits::is_set(changed, port)
+    match effect {
+        Effect::Ports { changed, .. } => bits::is_set(changed, port),
+        _ => false,
+    }
 }
 
 // Whether the register is SER_ALIAS_ID or one of the eight TARGET_ALIAS.
@@ -124,24 +80,13 @@ pub fn is_alias_register(offset: u8) -> bool
     ensures { result ≡ is_alias_register offset }
 {
     let at = offset as usize;
-    if at == map::SER_ALIAS_ID {
-        return true;
-    }
-    if at < map::TARGET_ALIAS_0 {
-        return false;
-    }
-    at < map::TARGET_ALIAS_0 + 8
+    at == map::SER_ALIAS_ID || map::TARGET_ALIAS_0 <= at && at < map::TARGET_ALIAS_0 + 8
 }
 
 // `odd-alias`: whether an alias register of some port gets an odd value.
-pub fn odd_alias_by(effect: Effect, offset: u8, value: u8) -> bool
-    ensures { result ≡ odd_alias_by effect offset value }
+#[tactic(auto, unfolding(crate::specs::AtWrites::odd_alias_by))]
+pub fn odd_alias_by(effect: Effect, write: NumberedWrite) -> bool
+    ensures { result ≡ odd_alias_by effect write }
 {
-    if !is_alias_register(offset) {
-        return false;
-    }
-    if reached_by(effect) == 0 {
-        return false;
-    }
-    value % 2 == 1
+    is_alias_register(write.offset) && reached_by(effect) != 0 && write.value % 2 == 1
 }

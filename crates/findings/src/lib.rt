@@ -8,7 +8,7 @@ ghost use Rattle.findings.specs.WritesSoFar.{next_block, start_so_far, step_so_f
 
 use ordering::inside::Extent;
 use ordering::{Order, inside};
-use origins::RegistersWithOrigins;
+use origins::{NumberedWrite, RegistersWithOrigins};
 use registers::{RegisterFile, map};
 use std::num::wrapping_add_u64;
 
@@ -28,6 +28,7 @@ pub struct WritesSoFar {
 }
 
 // Before the first write. What is promised of the registers beside it holds of every value of their type.
+#[tactic(auto, unfolding(crate::specs::WritesSoFar::start_so_far))]
 pub fn start(registers: RegisterFile) -> WritesSoFar
     ensures { (result ≡ start_so_far registers) × FileOfBytes registers }
 {
@@ -54,19 +55,21 @@ fn next_block(block: u64, offset: u8) -> u64
 }
 
 // One write more.
-pub fn step(before: WritesSoFar, number: u64, offset: u8, value: u8) -> WritesSoFar
-    ensures { result ≡ step_so_far before (record { number = number; offset = offset; value = value }) }
+#[tactic(auto, unfolding(crate::specs::WritesSoFar::step_so_far))]
+pub fn step(before: WritesSoFar, write: NumberedWrite) -> WritesSoFar
+    ensures { result ≡ step_so_far before write }
 {
+    let offset = write.offset;
     let block = next_block(before.block, offset);
-    let numbers = origins::write(before.numbers, number, offset, value);
-    let blocks = origins::write(before.blocks, block, offset, value);
-    let order = ordering::step(before.order, number, offset, value);
-    let extent = inside::step(before.extent, offset);
+    let in_block = NumberedWrite {
+        number: block,
+        ..write
+    };
     WritesSoFar {
-        numbers,
-        blocks,
+        numbers: origins::write(before.numbers, write),
+        blocks: origins::write(before.blocks, in_block),
         block,
-        order,
-        extent,
+        order: ordering::step(before.order, write),
+        extent: inside::step(before.extent, offset),
     }
 }

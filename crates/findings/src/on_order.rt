@@ -6,13 +6,13 @@ ghost use Rattle.ordering.specs.Inside.{shared_inside_now};
 use crate::WritesSoFar;
 use ordering::inside;
 use ordering::inside::Extent;
-use ordering::ticks::LastTick;
+use origins::NumberedWrite;
 
 // `port-twice`: where the write ticks a port that an earlier selection ticked, the latest such one.
-pub fn port_twice(before: WritesSoFar, offset: u8, value: u8, port: u8) -> LastTick
-    ensures { result ≡ port_twice_now before.order offset value port }
+pub fn port_twice(before: WritesSoFar, write: NumberedWrite, port: u8) -> Option<u64>
+    ensures { result ≡ port_twice_now before.order write port }
 {
-    ordering::port_twice(before.order, offset, value, port)
+    ordering::port_twice(before.order, write, port)
 }
 
 // `shared-in-block`: whether the write goes to a shared register other than FPD3_PORT_SEL, after a selection, and a

@@ -5,35 +5,28 @@ ghost use Rattle.findings.specs.Blocks.{is_earlier};
 ghost use Rattle.findings.specs.Replaced.{replaced_now};
 
 use crate::{WritesSoFar, by_effect};
-
-// Whether the finding is there; the number of the register's origin.
-#[derive(Clone, Copy)]
-pub enum Replacement {
-    NotReplaced,
-    From(u64),
-}
+use origins::NumberedWrite;
 
 // Whether a block is earlier than the present one; 0 is no block.
 fn is_earlier(block: u64, present: u64) -> bool
     ensures { result ≡ is_earlier block present }
 {
-    if block == 0 {
-        return false;
-    }
-    block < present
+    0 < block && block < present
 }
 
-// Of a write that comes next: whether it replaces the register of a port.
-pub fn replaced(before: WritesSoFar, offset: u8, value: u8, port: u8) -> Replacement
-    ensures { result ≡ replaced_now before offset value port }
+// Of a write that comes next: where it replaces the register of a port, the number of the register's origin.
+#[tactic(auto, unfolding(crate::specs::Replaced::replaced_now))]
+pub fn replaced(before: WritesSoFar, write: NumberedWrite, port: u8) -> Option<u64>
+    ensures { result ≡ replaced_now before write port }
 {
-    if !by_effect::changes_port(by_effect::effect_now(before, offset, value), port) {
-        return Replacement::NotReplaced;
+    if !by_effect::changes_port(by_effect::effect_now(before, write), port) {
+        return None;
     }
-    let block = origins::port_origin(before.blocks, port, offset);
-    if !is_earlier(block, before.block) {
-        return Replacement::NotReplaced;
+    if !is_earlier(
+        origins::port_origin(before.blocks, port, write.offset),
+        before.block,
+    ) {
+        return None;
     }
-    let number = origins::port_origin(before.numbers, port, offset);
-    Replacement::From(number)
+    Some(origins::port_origin(before.numbers, port, write.offset))
 }
