@@ -11,13 +11,13 @@ use lib.Pow.{pow-add, pow-lt}
 use lib.Seq.{get_or-drop, drop-set-lt}
 use Rattle.laws.specs.Reply.{refused, given}
 use Rattle.laws.proofs.Bitwise.{xor_low, xor_high}
-use Rattle.ecc.specs.declared.Corrected.{Corrected}
-use Rattle.ecc.specs.declared.Corrected.TheVariants.{Nothing, HeaderBit}
+use Rattle.std.specs.Prelude.{Option, None, Some}
 use Rattle.ecc.specs.CheckBytes.{check_byte}
 use Rattle.ecc.specs.HeaderCorrection.{is_right, flipped, correction_of}
 use Rattle.ecc.proofs.Linear.{check_small}
 use Rattle.ecc.proofs.Near.{right_by, correct_right, flipped_is_named, two_flipped_refused}
-use Rattle.reader.specs.Reader.{Packet, header_number, header_packet, read_body, read_packet}
+use Rattle.reader.specs.declared.Packet.{Packet}
+use Rattle.reader.specs.Reader.{header_number, header_packet, read_body, read_packet}
 use Rattle.reader.specs.RoundTrip.{flipped_in}
 use Rattle.reader.proofs.ReaderLaws.{header_read}
 
@@ -76,7 +76,7 @@ number_two bytes whole small i j hi hj =
     ∙ ap (λ (m : ℕ). flipped m j) (number_flipped bytes whole small i hi)
 
 -- the packet that a header tells
-abbrev pub packet_of : ℕ → ℕ → Corrected → Packet
+abbrev pub packet_of : ℕ → ℕ → Option ℕ → Packet
 packet_of identifier n corrected = record { data_identifier = identifier; word_count = n; corrected = corrected }
 
 -- a header that was written, with anything after it
@@ -102,7 +102,7 @@ module _ (identifier n : ℕ) (rest : List ℕ) (hi : identifier < 256) (hn : n 
       right_by (header_number bytes) (high ∙ ap check_byte (sym low))
 
   -- its number tells the identifier and the count
-  header_packet_lem : (corrected : Corrected) → header_packet (record { header = header_number bytes; corrected = corrected }) ≡ packet_of identifier n corrected
+  header_packet_lem : (corrected : Option ℕ) → header_packet (record { header = header_number bytes; corrected = corrected }) ≡ packet_of identifier n corrected
   header_packet_lem corrected =
       let i : header_number bytes % 2 ^ 8 ≡ identifier = omega arith in
       let above : header_number bytes / 2 ^ 8 ≡ n + 2 ^ 16 * check_byte (identifier + 256 * n) = omega arith in
@@ -110,26 +110,26 @@ module _ (identifier n : ℕ) (rest : List ℕ) (hi : identifier < 256) (hn : n 
       cc
 
   -- bytes whose header is read as this one are answered as its packet
-  read_so : (read : List ℕ) (corrected : Corrected) → 4 ≤ length read → drop 4 read ≡ rest
+  read_so : (read : List ℕ) (corrected : Option ℕ) → 4 ≤ length read → drop 4 read ≡ rest
       → correction_of (header_number read) ≡ given (record { header = header_number bytes; corrected = corrected })
       → read_packet read ≡ read_body rest (packet_of identifier n corrected)
   read_so read corrected whole body corrected-as =
       header_read read whole corrected-as ∙ ap₂ read_body body (header_packet_lem corrected)
 
   -- as it was written it is read with nothing corrected
-  pub written_read : read_packet bytes ≡ read_body rest (packet_of identifier n Nothing)
-  written_read = read_so bytes Nothing (omega arith) refl (correct_right (header_number bytes) header_right)
+  pub written_read : read_packet bytes ≡ read_body rest (packet_of identifier n None)
+  written_read = read_so bytes None (omega arith) refl (correct_right (header_number bytes) header_right)
 
   -- what stands after it stays when a bit of it is flipped
   pub drop-flipped : (i : ℕ) → i < 32 → drop 4 (flipped_in bytes i) ≡ rest
   drop-flipped i h = drop-set-lt 4 bytes (i / 8) (bit_xor (get_or bytes (i / 8) 0) (2 ^ (i % 8))) (omega arith)
 
   -- with bit i flipped it is read all the same, and bit i is named
-  pub flipped_read : (i : ℕ) → i < 32 → read_packet (flipped_in bytes i) ≡ read_body rest (packet_of identifier n (HeaderBit i))
+  pub flipped_read : (i : ℕ) → i < 32 → read_packet (flipped_in bytes i) ≡ read_body rest (packet_of identifier n (Some i))
   flipped_read i h =
       let whole : 4 ≤ length bytes = omega arith in
       let l = length-set bytes (i / 8) (bit_xor (get_or bytes (i / 8) 0) (2 ^ (i % 8))) in
-      read_so (flipped_in bytes i) (HeaderBit i) (omega arith) (drop-flipped i h)
+      read_so (flipped_in bytes i) (Some i) (omega arith) (drop-flipped i h)
       (ap correction_of (number_flipped bytes whole header_small i h)
       ∙ flipped_is_named (header_number bytes) i (number_small bytes whole header_small) h header_right)
 

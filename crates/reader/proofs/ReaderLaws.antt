@@ -9,9 +9,11 @@ use borrow.Author.Tests.{lt-ltb, le-ltb, ltb-false}
 use lib.Dec.{ltb}
 use lib.ListN.{length, drop, length-drop}
 use Rattle.laws.specs.Reply.{Reply, refused, refused_with, given, and_then}
-use Rattle.ecc.specs.HeaderCorrection.{ReadHeader, correction_of}
+use Rattle.ecc.specs.declared.ReadHeader.{ReadHeader}
+use Rattle.ecc.specs.HeaderCorrection.{correction_of}
 use Rattle.csi2.specs.Packets.{is_short}
-use Rattle.reader.specs.Reader.{Packet, header_number, header_packet, checksum_matches, read_body, read_packet, payload_count}
+use Rattle.reader.specs.declared.Packet.{Packet}
+use Rattle.reader.specs.Reader.{header_number, header_packet, checksum_matches, read_body, read_packet, payload_count}
 
 module _ (body : List ℕ) (packet : Packet) where
   pub short_accepted : is_short packet.data_identifier ≡ true → read_body body packet ≡ given packet

@@ -11,8 +11,7 @@ use lib.Seq.{take-append_seam, get_or-append_seam, get_or-append-add}
 use Rattle.laws.specs.Reply.{given}
 use Rattle.laws.specs.Buffers.{written}
 use Rattle.laws.proofs.Buffers.{drop-written}
-use Rattle.ecc.specs.declared.Corrected.{Corrected}
-use Rattle.ecc.specs.declared.Corrected.TheVariants.{Nothing, HeaderBit}
+use Rattle.std.specs.Prelude.{Option, None, Some}
 use Rattle.crc.specs.Checksum.{crc_of}
 use Rattle.csi2.specs.declared.short.FrameSync.{FrameSync}
 use Rattle.csi2.specs.declared.short.FrameSync.TheVariants.{FrameStart, FrameEnd}
@@ -30,10 +29,10 @@ use Rattle.reader.proofs.FlippedLaws.{packet_of, written_read, drop-flipped, fli
 
 -- a packet is read back if what stands after its header is accepted, whichever bit of the header was corrected
 module _ (identifier n : ℕ) (rest payload : List ℕ)
-    (accepted : (corrected : Corrected) → read_body rest (packet_of identifier n corrected) ≡ given (packet_of identifier n corrected))
+    (accepted : (corrected : Option ℕ) → read_body rest (packet_of identifier n corrected) ≡ given (packet_of identifier n corrected))
     (found : take (cond (is_short identifier) 0 n) rest ≡ payload) where
   -- the answers about any bytes that have the rest after their header and are answered as the packet
-  reads_with : (corrected : Corrected) (read : List ℕ) → read_packet read ≡ read_body rest (packet_of identifier n corrected) → drop 4 read ≡ rest
+  reads_with : (corrected : Option ℕ) (read : List ℕ) → read_packet read ≡ read_body rest (packet_of identifier n corrected) → drop 4 read ≡ rest
       → ReadsWith corrected read identifier n payload
   reads_with corrected read e body =
       let answer = e ∙ accepted corrected in
@@ -43,8 +42,8 @@ module _ (identifier n : ℕ) (rest payload : List ℕ)
   reads_as : identifier < 256 → n < 65536 → ReadsAs (header_bytes identifier n ++ rest) identifier n payload
   reads_as hi hn =
       rw (header_then identifier n rest) (
-        reads_with Nothing _ (written_read identifier n rest hi hn) refl,
-        λ i h. reads_with (HeaderBit i) _ (flipped_read identifier n rest hi hn i h) (drop-flipped identifier n rest hi hn i h),
+        reads_with None _ (written_read identifier n rest hi hn) refl,
+        λ i h. reads_with (Some i) _ (flipped_read identifier n rest hi hn i h) (drop-flipped identifier n rest hi hn i h),
         two_flipped_read identifier n rest hi hn,
       )
 

@@ -2,19 +2,13 @@
 -- Assumes nothing.
 use Rattle.std.specs.Prelude.{Bool, cond, List, ℕ, ◌+◌, ◌*◌, ◌/◌, ◌%◌, ◌^◌, ltb, eqb, length, get_or, take, drop}
 use Rattle.laws.specs.Reply.{Reply, refused, refused_with, given, and_then}
-use Rattle.ecc.specs.declared.Corrected.{Corrected}
-use Rattle.ecc.specs.HeaderCorrection.{ReadHeader, correction_of}
+use Rattle.ecc.specs.declared.ReadHeader.{ReadHeader}
+use Rattle.ecc.specs.HeaderCorrection.{correction_of}
 use Rattle.crc.specs.Checksum.{crc_of}
-use Rattle.reader.specs.declared.PacketRead.{PacketRead}
-use Rattle.reader.specs.declared.PacketRead.TheVariants.{Truncated, HeaderUncorrectable, ChecksumWrong, Accepted}
+use Rattle.reader.specs.declared.Packet.{Packet}
+use Rattle.reader.specs.declared.PacketRefusal.{PacketRefusal}
+use Rattle.reader.specs.declared.PacketRefusal.TheVariants.{Truncated, HeaderUncorrectable, ChecksumWrong}
 use Rattle.csi2.specs.Packets.{is_short}
-
--- the header of a packet that is accepted (the word count of a short packet is its frame number), and which of the
--- 32 bits was wrong
-pub record Packet : Type 0 where
-  pub data_identifier : ℕ
-  pub word_count : ℕ
-  pub corrected : Corrected
 
 -- "A header is four bytes: identifier, 16-bit count or frame number low byte first, check byte": as one number, and
 -- back
@@ -56,10 +50,8 @@ payload_count (given packet) = cond (is_short packet.data_identifier) 0 packet.w
 abbrev pub payload_read : List ℕ → List ℕ
 payload_read bytes = take (payload_count (read_packet bytes)) (drop 4 bytes)
 
--- the paper's number and values for each case of the answer
-abbrev pub packet_read_reply : PacketRead → Reply Packet
-packet_read_reply Truncated = refused 12
-packet_read_reply HeaderUncorrectable = refused 10
-packet_read_reply ChecksumWrong = refused 11
-packet_read_reply (Accepted data_identifier word_count corrected) =
-    given (record { data_identifier = data_identifier; word_count = word_count; corrected = corrected })
+-- the paper's numbers
+abbrev pub packet_refusal_number : PacketRefusal → ℕ
+packet_refusal_number Truncated = 12
+packet_refusal_number HeaderUncorrectable = 10
+packet_refusal_number ChecksumWrong = 11

@@ -1,13 +1,11 @@
 -- What is written is read back: laws that stand beside the contracts of the writers and of the reader.
 -- Assumes nothing.
-use Rattle.std.specs.Prelude.{◌≡◌, true, List, [], ℕ, ◌/◌, ◌%◌, ◌^◌, ◌<◌, length, get_or, set, drop}
+use Rattle.std.specs.Prelude.{◌≡◌, true, List, [], ℕ, ◌/◌, ◌%◌, ◌^◌, ◌<◌, length, get_or, set, drop, Option, None, Some}
 use Rattle.std.specs.Int.Bits.{bit_xor}
 use Rattle.laws.specs.Reply.{refused, given}
 use Rattle.laws.specs.Buffers.{written, if_room}
 use Rattle.formats.specs.declared.Format.{Format}
 use Rattle.formats.specs.Formats.{format_of}
-use Rattle.ecc.specs.declared.Corrected.{Corrected}
-use Rattle.ecc.specs.declared.Corrected.TheVariants.{Nothing, HeaderBit}
 use Rattle.unpacking.specs.Unpacking.{unpack_reply}
 use Rattle.csi2.specs.declared.short.FrameSync.{FrameSync}
 use Rattle.packing.specs.Raw.{payload_of, all_fit}
@@ -16,7 +14,7 @@ use Rattle.csi2.specs.Writers.{long_packet_reply, pixel_line_reply, short_reply}
 use Rattle.reader.specs.Reader.{read_packet, payload_read}
 
 -- the reader's answers about the packet at the start of the bytes
-abbrev pub ReadsWith : Corrected → List ℕ → ℕ → ℕ → List ℕ → Type 0
+abbrev pub ReadsWith : Option ℕ → List ℕ → ℕ → ℕ → List ℕ → Type 0
 ReadsWith corrected bytes identifier count payload =
     (read_packet bytes ≡ given (record { data_identifier = identifier; word_count = count; corrected = corrected }))
     × (payload_read bytes ≡ payload)
@@ -29,8 +27,8 @@ flipped_in bytes i = set bytes (i / 8) (bit_xor (get_or bytes (i / 8) 0) (2 ^ (i
 -- with any two different ones flipped refused
 abbrev pub ReadsAs : List ℕ → ℕ → ℕ → List ℕ → Type 0
 ReadsAs bytes identifier count payload =
-    ReadsWith Nothing bytes identifier count payload
-    × ((i : ℕ) → i < 32 → ReadsWith (HeaderBit i) (flipped_in bytes i) identifier count payload)
+    ReadsWith None bytes identifier count payload
+    × ((i : ℕ) → i < 32 → ReadsWith (Some i) (flipped_in bytes i) identifier count payload)
     × ((i j : ℕ) → i < 32 → j < 32 → (i ≡ j → ⊥) → read_packet (flipped_in (flipped_in bytes i) j) ≡ refused 10)
 
 -- for every long packet that is written, whether or not its pixels fit the format, read from its place

@@ -2,30 +2,57 @@
 #![tactic(auto)]
 
 ghost use Rattle.std.specs.Prelude.{◌≡◌, ◌+◌, ◌*◌, ◌^◌, ◌≤◌, length};
+ghost use Rattle.laws.specs.Reply.{reply_by};
+ghost use Rattle.reader.specs.declared.PacketRefusal.TheVariants.{HeaderUncorrectable};
 ghost use Rattle.reader.specs.Reader.{header_packet, checksum_matches, read_body, read_packet};
-ghost use Rattle.reader.specs.Reader.{payload_count, payload_read, packet_read_reply};
+ghost use Rattle.reader.specs.Reader.{payload_count, payload_read, packet_refusal_number};
 
 use csi2::short;
-use ecc::{Corrected, Correction};
+use ecc::{ReadHeader, Uncorrectable};
+use refusals::Refusal;
 
-// The header of a packet that is accepted, or why it is not. The word count of a short packet is its frame number.
+// The header of a packet that is accepted, and which of the 32 bits was wrong, if one was. The word count of a short
+// packet is its frame number.
 #[derive(Clone, Copy)]
-pub enum PacketRead {
+pub struct Packet {
+    pub data_identifier: u8,
+    pub word_count: u16,
+    pub corrected: Option<u8>,
+}
+
+// Why no packet is accepted.
+#[derive(Clone, Copy)]
+pub enum PacketRefusal {
     Truncated,
     HeaderUncorrectable,
     ChecksumWrong,
-    Accepted {
-        data_identifier: u8,
-        word_count: u16,
-        corrected: Corrected,
-    },
+}
+
+impl Refusal for PacketRefusal {
+    ghost number = { packet_refusal_number };
+
+    fn number(self) -> u8 {
+        match self {
+            PacketRefusal::Truncated => 12,
+            PacketRefusal::HeaderUncorrectable => 10,
+            PacketRefusal::ChecksumWrong => 11,
+        }
+    }
+}
+
+impl From<Uncorrectable> for PacketRefusal {
+    ghost from_gives = { λ refusal r. r ≡ HeaderUncorrectable };
+
+    fn from(_refusal: Uncorrectable) -> PacketRefusal {
+        PacketRefusal::HeaderUncorrectable
+    }
 }
 
 // Four bytes as one number, the first lowest.
 fn four_bytes(a: u8, b: u8, c: u8, d: u8) -> u32
     ensures { result ≡ a + 2 ^ 8 * b + 2 ^ 16 * c + 2 ^ 24 * d }
 {
-    (a as u32) + 0x100 * (b as u32) + 0x10000 * (c as u32) + 0x1000000 * (d as u32)
+    u32::from_le_bytes([a, b, c, d])
 }
 
 // Whether the two bytes after the payload are its checksum.
@@ -36,67 +63,51 @@ fn checksum_matches(body: &[u8], count: usize) -> bool
     buffers::two_bytes(body[count], body[count + 1]) == crc::checksum(&body[..count])
 }
 
-// Reads what stands after a header that was read as `header`.
-fn read_body(body: &[u8], header: u32, corrected: Corrected) -> PacketRead
-    ensures { packet_read_reply result
-        ≡ read_body body.now (header_packet (record { header = header; corrected = corrected })) }
+// Reads what stands after a header.
+fn read_body(body: &[u8], read: ReadHeader) -> Result<Packet, PacketRefusal>
+    ensures { reply_by packet_refusal_number result ≡ read_body body.now (header_packet read) }
 {
-    let data_identifier = (header % 0x100) as u8;
-    let word_count = (header / 0x100 % 0x10000) as u16;
-    if short::is_short(data_identifier) {
-        return PacketRead::Accepted {
-            data_identifier,
-            word_count,
-            corrected,
-        };
+    let packet = Packet {
+        data_identifier: (read.header % 0x100) as u8,
+        word_count: (read.header / 0x100 % 0x10000) as u16,
+        corrected: read.corrected,
+    };
+    if short::is_short(packet.data_identifier) {
+        return Ok(packet);
     }
-    let end = word_count as usize;
+    let end = packet.word_count as usize;
     if body.len() < end + 2 {
-        return PacketRead::Truncated;
+        return Err(PacketRefusal::Truncated);
     }
     if !checksum_matches(body, end) {
-        return PacketRead::ChecksumWrong;
+        return Err(PacketRefusal::ChecksumWrong);
     }
-    PacketRead::Accepted {
-        data_identifier,
-        word_count,
-        corrected,
-    }
+    Ok(packet)
 }
 
 // Reads the packet at the start of the bytes.
-pub fn read_packet(bytes: &[u8]) -> PacketRead
-    ensures { packet_read_reply result ≡ read_packet bytes.now }
+pub fn read_packet(bytes: &[u8]) -> Result<Packet, PacketRefusal>
+    ensures { reply_by packet_refusal_number result ≡ read_packet bytes.now }
 {
     if bytes.len() < 4 {
-        return PacketRead::Truncated;
+        return Err(PacketRefusal::Truncated);
     }
     let header = four_bytes(bytes[0], bytes[1], bytes[2], bytes[3]);
-    match ecc::correct_header(header) {
-        Correction::Uncorrectable => PacketRead::HeaderUncorrectable,
-        Correction::Header { header, corrected } => {
-            read_body(buffers::bytes_from(bytes, 4), header, corrected)
-        }
-    }
+    let read = ecc::correct_header(header)?;
+    read_body(buffers::bytes_from(bytes, 4), read)
 }
 
 // How many bytes the payload has, by the answer of the reader: none on refusal.
-fn payload_count(read: PacketRead) -> usize
-    ensures { result ≡ payload_count (packet_read_reply read) }
+fn payload_count(read: Result<Packet, PacketRefusal>) -> usize
+    ensures { result ≡ payload_count (reply_by packet_refusal_number read) }
 {
     match read {
-        PacketRead::Truncated => 0,
-        PacketRead::HeaderUncorrectable => 0,
-        PacketRead::ChecksumWrong => 0,
-        PacketRead::Accepted {
-            data_identifier,
-            word_count,
-            corrected: _,
-        } => {
-            if short::is_short(data_identifier) {
+        Err(_) => 0,
+        Ok(packet) => {
+            if short::is_short(packet.data_identifier) {
                 return 0;
             }
-            word_count as usize
+            packet.word_count as usize
         }
     }
 }

@@ -1,24 +1,19 @@
 -- `reader::read_body` meets its contract, by the cases of the definition.
 use mathlib.Core.Path.{◌≡◌, sym, ◌∙◌}
 use mathlib.Core.Bool.{Bool, false, cond}
-use Prim.Native.Nat.{ℕ}
 use Rattle.laws.specs.Reply.{refused, given}
-use Rattle.ecc.specs.declared.Corrected.{Corrected}
 use Rattle.csi2.specs.Packets.{is_short}
-use Rattle.reader.specs.Reader.{Packet, header_packet, read_body}
+use Rattle.reader.specs.Reader.{header_packet, read_body}
 use Rattle.reader.proofs.ReaderLaws.{short_accepted, body_cut, body_whole}
 use Rattle.reader.proofs.read_body.Goals as goal
 use Rattle.reader.proofs.read_body.Goals.{After-checksum_matches, Else-is_short}
 
--- the packet that the header says, which is long after the first test
-abbrev packetIn : ℕ → Corrected → Packet
-packetIn header corrected = header_packet (record { header = header; corrected = corrected })
-
-long : (e : Else-is_short) → is_short (packetIn e.args.header e.args.corrected).data_identifier ≡ false
+-- the packet is long after the first test
+long : (e : Else-is_short) → is_short (header_packet e.args.read).data_identifier ≡ false
 long e = sym e.is_short.ensures ∙ e.if-is_short.false
 
 -- after both tests, by the checksum
-summed : (k : After-checksum_matches) {right : Bool} → k.checksum_matches.result ≡ right → let packet = packetIn k.args.header k.args.corrected in
+summed : (k : After-checksum_matches) {right : Bool} → k.checksum_matches.result ≡ right → let packet = header_packet k.args.read in
     read_body k.args.body.now packet ≡ cond right (given packet) (refused 11)
 summed k e = body_whole _ _ (sym k.is_short.ensures ∙ k.if-is_short.false) k.if-body-end.false (sym k.checksum_matches.ensures ∙ e)
 
