@@ -13,7 +13,9 @@ use Rattle.hub.specs.declared.LastFrame.{LastFrame}
 use Rattle.hub.specs.declared.LastFrame.TheVariants.{NoFrame, Closed, Open}
 use Rattle.hub.specs.Routes.{PortRoute, port_route, route_of}
 use Rattle.hub.proofs.Routes.{route_given}
-use Rattle.frames.specs.Events.{start_event, pixel_line_event, end_event, last_frame, Outcome, dropped, sent, forward_on, if_open}
+use Rattle.laws.proofs.Absurd.{zero_not_one}
+use lib.ListN.{length}
+use Rattle.frames.specs.Events.{start_event, pixel_line_event, end_event, last_frame, Outcome, dropped, sent, on_outcome, forward_on, if_open}
 use Rattle.frames.specs.Events.{opened_with, closed_with, unless_refused, hub_after, buffer_after}
 use Rattle.frames.specs.Events.{Answered, RefusalChangesNothing, EventsKeepRegisters}
 
@@ -49,16 +51,21 @@ module _ {hub moved : Hub} {d : List ℕ} {place : ℕ} where
       go (refused_with number detail) = record { answered = refl; state = refl; buffer = refl }
       go (given bytes) = record { answered = refl; state = refl; buffer = refl }
 
--- a line that is sent leaves the hub as it is
-pub line_sent : {hub : Hub} {d : List ℕ} {place : ℕ} (csi : ℕ) {packet : Reply (List ℕ)} {told : Reply ℕ} {after : List ℕ} → Writes d place packet told after
-    → {answer : Reply (Outcome ℕ)} → answer ≡ on_reply (sent csi) told → Answered hub hub d place (on_reply (sent csi) packet) answer hub after
-line_sent {hub} csi {told} w a =
-    let done = event_sent {hub = hub} {moved = hub} csi w in
-    record { answered = a ∙ done.answered; state = stays told ∙ done.state; buffer = done.buffer }
-  where
-    stays : (told : Reply ℕ) → hub ≡ unless_refused hub hub told
-    stays (refused_with number detail) = refl
-    stays (given a) = refl
+-- an event that leaves the hub as it is was answered as one that moves it on is: only a refusal keeps it
+module _ {hub : Hub} (moved : Hub) {d : List ℕ} {place : ℕ} {reply : Reply (Outcome (List ℕ))} {after : List ℕ} where
+  pub taken_so : {outcome : Outcome ℕ} → Answered hub hub d place reply (given outcome) hub after → Answered hub moved d place reply (given outcome) moved after
+  taken_so {outcome} w = record { answered = w.answered; state = go reply w.answered; buffer = w.buffer }
+    where
+      go : (reply : Reply (Outcome (List ℕ))) → given outcome ≡ on_reply (on_outcome length) reply → moved ≡ unless_refused hub moved reply
+      go (refused_with number detail) e = zero_not_one (cc)
+      go (given done) e = refl
+
+  pub refused_so : {number : ℕ} → Answered hub hub d place reply (refused number) hub after → Answered hub moved d place reply (refused number) hub after
+  refused_so {number} w = record { answered = w.answered; state = go reply w.answered; buffer = w.buffer }
+    where
+      go : (reply : Reply (Outcome (List ℕ))) → refused number ≡ on_reply (on_outcome length) reply → hub ≡ unless_refused hub moved reply
+      go (refused_with number' detail) e = refl
+      go (given done) e = zero_not_one (cc)
 
 -- a refusal changes nothing, whatever the event, and no event changes a register
 pub refusal_changes_nothing : RefusalChangesNothing

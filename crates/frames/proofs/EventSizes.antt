@@ -3,6 +3,7 @@
 use mathlib.Core.Path.{◌≡◌, refl, sym, ap, ◌∙◌}
 use mathlib.Core.Bool.{Bool, true, false, cond}
 use mathlib.Core.List.{List, [], append-nil}
+use Rattle.std.specs.Prelude.{Result, Ok, Err}
 use Prim.Native.Nat.{ℕ, ◌+◌, ◌≤◌, ◌<◌}
 use native.Mathlib.Omega.{arith}
 use borrow.Author.Tests.{leb-true, leb-false}
@@ -18,8 +19,8 @@ use Rattle.hub.specs.declared.LastFrame.{LastFrame}
 use Rattle.hub.specs.declared.LastFrame.TheVariants.{NoFrame, Closed, Open}
 use Rattle.hub.specs.Hubs.{is_open}
 use Rattle.hub.specs.Routes.{PortRoute, off, output, data_identifier, port_route}
-use Rattle.packing.specs.declared.check.PixelCheck.{PixelCheck}
-use Rattle.packing.specs.declared.check.PixelCheck.TheVariants.{WidthNotAllowed, PixelTooLarge, Fit}
+use Rattle.packing.specs.declared.check.PixelRefusal.{PixelRefusal}
+use Rattle.packing.specs.declared.check.PixelRefusal.TheVariants.{WidthNotAllowed, PixelTooLarge}
 use Rattle.packing.specs.Raw.{payload_of, width_allowed}
 use Rattle.packing.specs.Lengths.{payload_length}
 use Rattle.packing.specs.Packing.{check_of, after_check, if_pixels}
@@ -70,10 +71,10 @@ module _ (P : Reply (Outcome (List ℕ)) → Type 0) (refusal : (number : ℕ) �
   if_open_lem (Closed format number) next p = refusal 4 (omega arith)
   if_open_lem (Open format number) next p = p format number
 
-  after_check_lem : (check : PixelCheck) (next : Reply (Outcome (List ℕ))) → (check ≡ Fit → P next) → P (after_check check next)
-  after_check_lem WidthNotAllowed next p = refusal 5 (omega arith)
-  after_check_lem PixelTooLarge next p = refusal 6 (omega arith)
-  after_check_lem Fit next p = p refl
+  after_check_lem : (check : Result Unit PixelRefusal) (next : Reply (Outcome (List ℕ))) → (check ≡ Ok tt → P next) → P (after_check check next)
+  after_check_lem (Err WidthNotAllowed) next p = refusal 5 (omega arith)
+  after_check_lem (Err PixelTooLarge) next p = refusal 6 (omega arith)
+  after_check_lem (Ok tt) next p = p refl
 
   pub by_event : (size place : ℕ)
       → ((csi identifier : ℕ) (sync : FrameSync) (number : ℕ) → P (on_reply (sent csi) (short_reply identifier sync number size place)))

@@ -1,8 +1,9 @@
 -- Frame events on the hub: document 01, "Frames and packets" and "Refusal numbers".
 -- Assumes nothing.
-use Rattle.std.specs.Prelude.{◌≡◌, cond, List, ℕ, ◌+◌, ◌*◌, eqb, leb, ltb, length}
+use Rattle.std.specs.Prelude.{◌≡◌, cond, List, ℕ, ◌+◌, ◌*◌, eqb, leb, ltb, length, Result, Some, None}
+use Rattle.std.specs.Prelude.{Option as SourceOption}
 use Rattle.std.proofs.Math.Option.{Option}
-use Rattle.laws.specs.Reply.{Reply, refused, refused_with, given, on_reply, and_then}
+use Rattle.laws.specs.Reply.{Reply, refused, refused_with, given, on_reply, and_then, reply_by}
 use Rattle.laws.specs.Buffers.{written}
 use Rattle.formats.specs.declared.Format.{Format}
 use Rattle.formats.specs.Formats.{format_of}
@@ -15,12 +16,11 @@ use Rattle.hub.specs.declared.Hub.{Hub}
 use Rattle.hub.specs.Hubs.{is_open, frame_number, port_frames, with_port_frames}
 use Rattle.hub.specs.Routes.{PortRoute, off, output, data_identifier, port_route}
 use Rattle.packing.specs.Raw.{payload_of}
-use Rattle.packing.specs.Packing.{if_pixels}
+use Rattle.packing.specs.Packing.{pixel_refusal_number, if_pixels}
 use Rattle.csi2.specs.declared.short.FrameSync.TheVariants.{FrameStart, FrameEnd}
 use Rattle.csi2.specs.Writers.{short_reply, packet_reply}
 use Rattle.frames.specs.declared.EventRefusal.{EventRefusal}
-use Rattle.frames.specs.declared.EventAnswer.{EventAnswer}
-use Rattle.frames.specs.declared.EventAnswer.TheVariants.{Refused, Dropped, Sent}
+use Rattle.frames.specs.declared.Sent.{Sent}
 
 -- "Frame start names port and format." "Line names a port and pixels as 16-bit numbers." A frame end names a port.
 pub data Event : Type 0 where
@@ -122,15 +122,16 @@ abbrev pub event_refusal_number : EventRefusal → ℕ
 event_refusal_number EventRefusal.NoSuchPort = 1
 event_refusal_number EventRefusal.UnknownFormat = 3
 event_refusal_number EventRefusal.OutOfSequence = 4
-event_refusal_number EventRefusal.WidthNotAllowed = 5
-event_refusal_number EventRefusal.PixelTooLarge = 6
+event_refusal_number (EventRefusal.Pixels refusal) = pixel_refusal_number refusal
 event_refusal_number EventRefusal.ShortType = 7
 event_refusal_number EventRefusal.NoRoom = 8
 
-abbrev pub event_answer_reply : EventAnswer → Reply (Outcome ℕ)
-event_answer_reply (Refused refusal) = refused (event_refusal_number refusal)
-event_answer_reply Dropped = given dropped
-event_answer_reply (Sent csi bytes) = given (sent csi bytes)
+abbrev pub outcome_of : SourceOption Sent → Outcome ℕ
+outcome_of None = dropped
+outcome_of (Some packet) = sent packet.csi packet.bytes
+
+abbrev pub event_answer_reply : Result (SourceOption Sent) EventRefusal → Reply (Outcome ℕ)
+event_answer_reply answer = on_reply outcome_of (reply_by event_refusal_number answer)
 
 -- The answer to the caller, the hub, which becomes `moved` unless the event is refused, and the lent buffer after it,
 -- all as the reply says.

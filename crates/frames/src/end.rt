@@ -1,41 +1,44 @@
 // A frame end.
 ghost use Rattle.frames.specs.Events.{end_event, event_answer_reply, EventAnswered};
+ghost use Rattle.frames.specs.PrivateContracts.{taken_reply, hub_with_taken};
 
-use crate::{AfterEvent, EventAnswer, EventRefusal, sync};
+use crate::sync::SyncPacket;
+use crate::{AfterEvent, EventRefusal, Taken, sync};
 use csi2::short::FrameSync;
 use hub::{Hub, LastFrame, PortFrames};
+
+// A frame end that closes the port's frame, or is refused.
+fn close(hub: Hub, port: u8, buf: &mut [u8], place: usize) -> Result<Taken, EventRefusal>
+    ensures { EventAnswered hub (end_event port) buf.old place
+        (taken_reply result) (hub_with_taken hub result) buf.new }
+{
+    if 3 < port {
+        return Err(EventRefusal::NoSuchPort);
+    }
+    let frames = hub::port_frames(hub, port);
+    let LastFrame::Open(format, number) = frames.last else {
+        return Err(EventRefusal::OutOfSequence);
+    };
+    let packet = SyncPacket {
+        port,
+        format,
+        sync: FrameSync::FrameEnd,
+        number,
+    };
+    let sent = sync::put_sync(hub, packet, buf, place)?;
+    let closed = PortFrames {
+        last: LastFrame::Closed(format, number),
+    };
+    Ok(Taken {
+        sent,
+        hub: hub::with_port_frames(hub, port, closed),
+    })
+}
 
 // A frame end on a port; the packet is written from the place.
 pub fn end(hub: Hub, port: u8, buf: &mut [u8], place: usize) -> AfterEvent
     ensures { EventAnswered hub (end_event port) buf.old place
         (event_answer_reply result.answer) result.hub buf.new }
 {
-    if 3 < port {
-        return AfterEvent {
-            answer: EventAnswer::Refused(EventRefusal::NoSuchPort),
-            hub,
-        };
-    }
-    let frames = hub::port_frames(hub, port);
-    let last = frames.last;
-    let LastFrame::Open(format, number) = last else {
-        return AfterEvent {
-            answer: EventAnswer::Refused(EventRefusal::OutOfSequence),
-            hub,
-        };
-    };
-    let closed = PortFrames {
-        last: LastFrame::Closed(format, number),
-    };
-    let moved = hub::with_port_frames(hub, port, closed);
-    sync::put_sync(
-        hub,
-        moved,
-        port,
-        format,
-        FrameSync::FrameEnd,
-        number,
-        buf,
-        place,
-    )
+    crate::after_event(hub, close(hub, port, buf, place))
 }

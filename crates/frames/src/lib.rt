@@ -3,9 +3,16 @@
 #![tactic(auto)]
 
 ghost use Rattle.std.specs.Prelude.{◌≡◌};
-ghost use Rattle.frames.specs.Events.{event_refusal_number};
+ghost use Rattle.frames.specs.declared.EventRefusal.TheVariants.{NoSuchPort, Pixels, NoRoom};
+ghost use Rattle.csi2.specs.Writers.{long_refusal_number};
+ghost use Rattle.frames.specs.Events.{event_refusal_number, event_answer_reply};
+ghost use Rattle.frames.specs.PrivateContracts.{taken_reply, hub_with_taken};
 
-use hub::Hub;
+use csi2::long::LongRefusal;
+use csi2::short;
+use hub::{Hub, forwarding};
+use packing::check::PixelRefusal;
+use refusals::Refusal;
 
 pub mod end;
 mod numbering;
@@ -20,38 +27,96 @@ pub enum EventRefusal {
     UnknownFormat,
     // "start on an open port; line or end on a closed one"
     OutOfSequence,
-    WidthNotAllowed,
-    PixelTooLarge,
+    Pixels(PixelRefusal),
     ShortType,
     NoRoom,
 }
 
-// What becomes of an event: it is refused or dropped, or its packet, of so many bytes, leaves on a CSI output.
-#[derive(Clone, Copy)]
-pub enum EventAnswer {
-    Refused(EventRefusal),
-    Dropped,
-    Sent { csi: u8, bytes: usize },
+impl Refusal for EventRefusal {
+    ghost number = { event_refusal_number };
+
+    fn number(self) -> u8 {
+        match self {
+            EventRefusal::NoSuchPort => 1,
+            EventRefusal::UnknownFormat => 3,
+            EventRefusal::OutOfSequence => 4,
+            EventRefusal::Pixels(refusal) => refusal.number(),
+            EventRefusal::ShortType => 7,
+            EventRefusal::NoRoom => 8,
+        }
+    }
 }
 
-// The answer, and the hub after the event.
+impl From<forwarding::NoSuchPort> for EventRefusal {
+    ghost from_gives = { λ _ refusal. refusal ≡ NoSuchPort };
+
+    fn from(_refusal: forwarding::NoSuchPort) -> EventRefusal {
+        EventRefusal::NoSuchPort
+    }
+}
+
+impl From<PixelRefusal> for EventRefusal {
+    ghost from_gives = { λ pixels refusal. refusal ≡ Pixels pixels };
+
+    fn from(refusal: PixelRefusal) -> EventRefusal {
+        EventRefusal::Pixels(refusal)
+    }
+}
+
+impl From<short::NoRoom> for EventRefusal {
+    ghost from_gives = { λ _ refusal. refusal ≡ NoRoom };
+
+    fn from(_refusal: short::NoRoom) -> EventRefusal {
+        EventRefusal::NoRoom
+    }
+}
+
+impl From<LongRefusal> for EventRefusal {
+    ghost from_gives = { λ long refusal. event_refusal_number refusal ≡ long_refusal_number long };
+
+    fn from(refusal: LongRefusal) -> EventRefusal {
+        match refusal {
+            LongRefusal::Pixels(refusal) => EventRefusal::Pixels(refusal),
+            LongRefusal::ShortType => EventRefusal::ShortType,
+            LongRefusal::NoRoom => EventRefusal::NoRoom,
+        }
+    }
+}
+
+// A packet that left: on which CSI output, and how many bytes it has.
+#[derive(Clone, Copy)]
+pub struct Sent {
+    pub csi: u8,
+    pub bytes: usize,
+}
+
+// The answer, where None is an event that was dropped, and the hub after the event.
 #[derive(Clone, Copy)]
 pub struct AfterEvent {
-    pub answer: EventAnswer,
+    pub answer: Result<Option<Sent>, EventRefusal>,
     pub hub: Hub,
 }
 
-// The number of a refusal in document 01.
-pub fn refusal_number(refusal: EventRefusal) -> u8
-    ensures { result ≡ event_refusal_number refusal }
+// An event that was not refused: its packet, unless it was dropped, and the hub, which has moved on.
+#[derive(Clone, Copy)]
+pub(crate) struct Taken {
+    pub sent: Option<Sent>,
+    pub hub: Hub,
+}
+
+// What comes of an event on the hub: one that is refused leaves the hub as it was.
+fn after_event(hub: Hub, taken: Result<Taken, EventRefusal>) -> AfterEvent
+    ensures answer { event_answer_reply result.answer ≡ taken_reply taken }
+    ensures hub { result.hub ≡ hub_with_taken hub taken }
 {
-    match refusal {
-        EventRefusal::NoSuchPort => 1,
-        EventRefusal::UnknownFormat => 3,
-        EventRefusal::OutOfSequence => 4,
-        EventRefusal::WidthNotAllowed => 5,
-        EventRefusal::PixelTooLarge => 6,
-        EventRefusal::ShortType => 7,
-        EventRefusal::NoRoom => 8,
+    match taken {
+        Ok(taken) => AfterEvent {
+            answer: Ok(taken.sent),
+            hub: taken.hub,
+        },
+        Err(refusal) => AfterEvent {
+            answer: Err(refusal),
+            hub,
+        },
     }
 }
