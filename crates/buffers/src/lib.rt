@@ -11,10 +11,7 @@ pub mod text;
 pub fn has_room(size: usize, place: usize, needed: usize) -> bool
     ensures { result ≡ has_room size place needed }
 {
-    if size < needed {
-        return false;
-    }
-    place <= size - needed
+    needed <= size && place <= size - needed
 }
 
 // The same for `count` pieces of `each` bytes: their product may be too large for the machine.
@@ -34,10 +31,7 @@ pub fn has_room_for(size: usize, place: usize, count: usize, each: usize) -> boo
 pub fn byte_at(bytes: &[u8], place: usize) -> u8
     ensures { result ≡ get_or bytes.now place 0 }
 {
-    if place < bytes.len() {
-        return bytes[place];
-    }
-    0
+    bytes.get(place).copied().unwrap_or(0)
 }
 
 // The bytes from a place on, as a part of them; past the end there are none.
@@ -54,7 +48,7 @@ pub fn bytes_from(bytes: &[u8], place: usize) -> &[u8]
 pub fn two_bytes(low: u8, high: u8) -> u16
     ensures { result ≡ low + 256 * high }
 {
-    (low as u16) + 256 * (high as u16)
+    u16::from_le_bytes([low, high])
 }
 
 // Puts a byte at the place, if it has room, and answers the next free place.
@@ -73,10 +67,8 @@ pub fn put_bytes(out: &mut [u8], at: usize, bytes: &[u8]) -> usize
     ensures { Puts out.old at bytes.now out.new result }
 {
     let mut next = at;
-    let mut i = 0;
-    while i < bytes.len() {
-        next = put_byte(out, next, bytes[i]);
-        i += 1;
+    for byte in bytes {
+        next = put_byte(out, next, *byte);
     }
     next
 }

@@ -1,30 +1,37 @@
 // Numbers as text, put into a buffer from a place on as far as they have room; the answer is the next free place.
-ghost use Rattle.std.specs.Prelude.{◌≡◌, ◌%◌};
+ghost use Rattle.std.specs.Prelude.{◌≡◌, cond, ◌+◌, ◌-◌, ◌%◌, ◌<◌, ◌≤◌, ltb};
 ghost use Rattle.buffers.specs.Numerals.{hex_digit, hex_byte, lowercase_digit, decimal_from, decimal};
 ghost use Rattle.buffers.specs.Putting.{Puts};
 
 use crate::put_byte;
 
+// A digit of hexadecimal, whose first letter is given; of a larger number the last one.
+fn digit_with(first_letter: u8, digit: u8) -> u8
+    requires low { 10 ≤ first_letter }
+    requires high { first_letter < 128 }
+    ensures { result ≡ cond (ltb (digit % 16) 10) (48 + digit % 16) (first_letter - 10 + digit % 16) }
+{
+    let last = digit % 16;
+    if last < 10 {
+        return b'0' + last;
+    }
+    first_letter - 10 + last
+}
+
 // A digit of hexadecimal, in capitals; of a larger number the last one.
+#[tactic(auto, unfolding(crate::specs::Numerals::hex_digit))]
 pub fn hex_digit(digit: u8) -> u8
     ensures { result ≡ hex_digit (digit % 16) }
 {
-    let last = digit % 16;
-    if last < 10 {
-        return b'0' + last;
-    }
-    b'A' - 10 + last
+    digit_with(b'A', digit)
 }
 
 // The same in small letters.
+#[tactic(auto, unfolding(crate::specs::Numerals::lowercase_digit))]
 pub fn lowercase_digit(digit: u8) -> u8
     ensures { result ≡ lowercase_digit (digit % 16) }
 {
-    let last = digit % 16;
-    if last < 10 {
-        return b'0' + last;
-    }
-    b'a' - 10 + last
+    digit_with(b'a', digit)
 }
 
 // A byte as two digits of hexadecimal, in capitals.

@@ -2,7 +2,7 @@
 // input and no output.
 #![tactic(auto)]
 
-ghost use Rattle.std.specs.Prelude.{◌≡◌, ◌≤◌, ◌+◌, ◌-◌, min, length, take, drop};
+ghost use Rattle.std.specs.Prelude.{◌≡◌, ◌≤◌, length, take, drop};
 ghost use Rattle.laws.specs.Buffers.{written};
 ghost use Rattle.streams.specs.Streams.{new_window, wants_bytes, file_ended, after_read, nothing_left};
 
@@ -34,30 +34,15 @@ pub fn wants_bytes(window: Window, size: usize) -> bool
 fn file_ended(last: bool, held: usize, size: usize, got: usize) -> bool
     ensures { result ≡ file_ended last held size got }
 {
-    if last {
-        return true;
-    }
-    if held < size {
-        return got == 0;
-    }
-    false
-}
-
-fn at_most(count: usize, most: usize) -> usize
-    ensures { (result ≡ min count most) × (result ≤ most) }
-{
-    if most < count {
-        return most;
-    }
-    count
+    last || (held < size && got == 0)
 }
 
 // The window after `got` bytes were read into the buffer after those that it held.
 pub fn after_read(window: Window, got: usize, size: usize) -> Window
     ensures { (result ≡ after_read window got size) × (result.held ≤ size) }
 {
-    let held = at_most(window.held, size);
-    let new = at_most(got, size - held);
+    let held = window.held.min(size);
+    let new = got.min(size - held);
     Window {
         held: held + new,
         last: file_ended(window.last, held, size, new),
@@ -68,26 +53,7 @@ pub fn after_read(window: Window, got: usize, size: usize) -> Window
 pub fn nothing_left(over: bool, last: bool, left: usize) -> bool
     ensures { result ≡ nothing_left over last left }
 {
-    if over {
-        return true;
-    }
-    last && left == 0
-}
-
-// Moves the bytes between two places to the start, and answers how many they are.
-fn move_down(buffer: &mut [u8], from: usize, to: usize) -> usize
-    requires from_le_to { from ≤ to }
-    requires to_in_bounds { to ≤ length buffer.old }
-    ensures { (result ≡ to - from)
-        × (buffer.new ≡ written buffer.old 0 (drop from (take to buffer.old))) }
-{
-    let count = to - from;
-    let mut i = 0;
-    while i < count {
-        buffer[i] = buffer[from + i];
-        i += 1;
-    }
-    count
+    over || (last && left == 0)
 }
 
 // Moves what is left of the first `held` bytes, after the first `used` of them, to the start, and answers how many
@@ -96,7 +62,8 @@ pub fn slide(buffer: &mut [u8], used: usize, held: usize) -> usize
     ensures { (result ≡ length (drop used (take held buffer.old)))
         × (buffer.new ≡ written buffer.old 0 (drop used (take held buffer.old))) }
 {
-    let to = at_most(held, buffer.len());
-    let from = at_most(used, to);
-    move_down(buffer, from, to)
+    let to = held.min(buffer.len());
+    let from = used.min(to);
+    buffer.copy_within(from..to, 0);
+    to - from
 }

@@ -1,11 +1,7 @@
--- `buffers::put_bytes` meets its contract: in the loop the bytes passed were put. The measure: how many are left.
-use Prim.Native.Nat.{◌≤◌, ◌-◌}
-use lib.ListN.{length, take}
+-- In the loop the bytes passed were put.
+use lib.ListN.{take}
 use Rattle.buffers.specs.Putting.{Puts}
 use Rattle.buffers.proofs.put_bytes.Given as goal
 
-abbrev pub invariant-loop-i : goal.invariant-loop-i
-invariant-loop-i l = (l.i ≤ length l.bytes) × Puts l.initial.out l.at (take l.i l.bytes) l.out l.next
-
-abbrev pub decreases-loop-i : goal.decreases-loop-i
-decreases-loop-i l = length l.bytes - l.i
+abbrev pub invariant-loop-byte : goal.invariant-loop-byte
+invariant-loop-byte l = Puts l.initial.out l.at (take l.byte-index l.bytes) l.out l.next
