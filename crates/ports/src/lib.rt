@@ -1,8 +1,8 @@
 // A set of ports as a mask of four bits: bit p is set where port p is in the set.
 #![tactic(auto)]
 
-ghost use Rattle.std.specs.Prelude.{◌≡◌, cond, ◌≤◌};
-ghost use Rattle.ports.specs.PortMasks.{mask_of_four, mask_of_port, several_ports};
+ghost use Rattle.std.specs.Prelude.{◌≡◌, Bool, cond, ℕ, ◌<◌, ◌≤◌};
+ghost use Rattle.ports.specs.PortMasks.{mask_of_four, mask_of_port, port_mask, several_ports};
 
 // What a port adds to the mask.
 fn weight_if(is_in: bool, weight: u8) -> u8
@@ -18,11 +18,22 @@ pub fn mask_of_four(port_0: bool, port_1: bool, port_2: bool, port_3: bool) -> u
     weight_if(port_0, 1) + weight_if(port_1, 2) + weight_if(port_2, 4) + weight_if(port_3, 8)
 }
 
+// The mask of the ports that a test holds of. What it answers is said by a test of numbers, `holds`.
+#[tactic(auto, unfolding(crate::specs::PortMasks::port_mask))]
+pub fn mask_of<F: Fn(u8) -> bool>(is_in: F) -> u8
+    requires { F.IsAlwaysCallable is_in }
+    ensures { (holds : ℕ → Bool)
+        → ((port : ℕ) (answer : Bool) → port < 4 → F.post is_in port answer → answer ≡ holds port)
+        → result ≡ port_mask holds }
+{
+    mask_of_four(is_in(0), is_in(1), is_in(2), is_in(3))
+}
+
 // The mask of one port; there is no port above 3.
 pub fn mask_of_port(port: u8) -> u8
     ensures { result ≡ mask_of_port port }
 {
-    mask_of_four(port == 0, port == 1, port == 2, port == 3)
+    mask_of(|own| port == own)
 }
 
 // Whether two or more ports are in a mask.
