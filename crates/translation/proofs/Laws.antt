@@ -1,5 +1,6 @@
 -- The laws of specs/Laws.antt, proved.
 -- Assumes nothing.
+use Rattle.std.proofs.Common.{Option, Some, None}
 use mathlib.Core.Path.{◌≡◌, refl}
 use mathlib.Core.Bool.{Bool, true, false, cond}
 use mathlib.Core.List.{List, [], ◌∷◌, Memᴰ}
@@ -12,10 +13,7 @@ use Rattle.laws.proofs.Absurd.{zero_not_one}
 use Rattle.registers.specs.RegisterMap.{BCC_CONFIG, SER_ALIAS_ID, TARGET_ALIAS_0}
 use Rattle.registers.specs.RegisterFiles.{page_at, read_port}
 use Rattle.translation.specs.declared.PortDevice.{PortDevice}
-use Rattle.translation.specs.declared.PortAnswer.{PortAnswer}
-use Rattle.translation.specs.declared.PortAnswer.TheVariants.{NoMatch, Device}
-use Rattle.translation.specs.declared.Addressee.{Addressee}
-use Rattle.translation.specs.declared.Addressee.TheVariants.{OutOfRange, TheHub, Ports}
+use Rattle.translation.specs.Translation.{Addressee, OutOfRange, TheHub, Ports}
 use Rattle.translation.specs.Translation.{alias_matches, target_from, on_port, on_ports, receivers, addressee_of}
 use Rattle.translation.specs.Translation.{answered_by, found, reached, who_hears_write, answered, who_answers_read}
 use Rattle.translation.specs.Laws.{SameWriteAnswer, BehindPorts, WriteReachesPorts, ReadReachesPort}
@@ -27,11 +25,11 @@ unfolding who_hears_write addressee_of
 same_write_answer a b pages own address = rw (pages, own)
 
 -- the device of an answer, if there is one, is behind a port below 4
-data Behind : PortAnswer → Type 0 where
-  no_device_lem : Behind NoMatch
-  one_device : {device : PortDevice} → device.port < 4 → Behind (Device device)
+data Behind : Option PortDevice → Type 0 where
+  no_device_lem : Behind None
+  one_device : {device : PortDevice} → device.port < 4 → Behind (Some device)
 
-either : (b : Bool) {x y : PortAnswer} → Behind x → Behind y → Behind (cond b x y)
+either : (b : Bool) {x y : Option PortDevice} → Behind x → Behind y → Behind (cond b x y)
 either true p q = p
 either false p q = q
 
@@ -50,17 +48,17 @@ module _ (pages : List ℕ) (address port : ℕ) (small : port < 4) where
       either (bit 6 (page_at pages port BCC_CONFIG))
       (either (alias_matches (page_at pages port SER_ALIAS_ID) address) (one_device small) (target_behind 0 8)) no_device_lem
 
-abbrev AllBehind : List PortAnswer → Type 0
+abbrev AllBehind : List (Option PortDevice) → Type 0
 AllBehind [] = Unit
 AllBehind (answer ∷ answers) = Behind answer × AllBehind answers
 
-devices_behind : (answers : List PortAnswer) → AllBehind answers
+devices_behind : (answers : List (Option PortDevice)) → AllBehind answers
     → (device : PortDevice) → Memᴰ device (receivers answers) → device.port < 4
 unfolding receivers
 devices_behind [] h device m = elim m [ ]
-devices_behind (NoMatch ∷ answers) h device m = devices_behind answers h.1 device m
-devices_behind (Device d ∷ answers) (one_device p, h) device (Memᴰ.head e) = rw e p
-devices_behind (Device d ∷ answers) h device (Memᴰ.tail m) = devices_behind answers h.1 device m
+devices_behind (None ∷ answers) h device m = devices_behind answers h.1 device m
+devices_behind (Some d ∷ answers) (one_device p, h) device (Memᴰ.head e) = rw e p
+devices_behind (Some d ∷ answers) h device (Memᴰ.tail m) = devices_behind answers h.1 device m
 
 all-behind : (pages : List ℕ) (address : ℕ) → BehindPorts (receivers (on_ports pages address))
 all-behind pages address =
@@ -89,24 +87,24 @@ read_reaches_port hub address device =
     go (addressee_of hub address) _ _
     (port_behind pages address (read_port hub.registers) (omega arith)) (all-behind pages address)
   where
-    go : (a : Addressee) (own : PortAnswer) (ds : List PortDevice) → Behind own → BehindPorts ds
+    go : (a : Addressee) (own : Option PortDevice) (ds : List PortDevice) → Behind own → BehindPorts ds
         → answered_by a (answered own ds) ≡ given (found device) → device.port < 4
     go OutOfRange own ds p b e = zero_not_one (cc)
     go TheHub own ds p b e = zero_not_one (cc)
-    go Ports (Device d) ds (one_device p) b e = let same : device ≡ d = cc in rw same p
-    go Ports NoMatch [] p b e = zero_not_one (cc)
-    go Ports NoMatch (d ∷ []) p b e = b.ports device (Memᴰ.head (cc))
-    go Ports NoMatch (d ∷ f ∷ ds) p b e = zero_not_one (cc)
+    go Ports (Some d) ds (one_device p) b e = let same : device ≡ d = cc in rw same p
+    go Ports None [] p b e = zero_not_one (cc)
+    go Ports None (d ∷ []) p b e = b.ports device (Memᴰ.head (cc))
+    go Ports None (d ∷ f ∷ ds) p b e = zero_not_one (cc)
 
 -- the device of a port that matches is among those that a write reaches
-receiver_of : (answers : List PortAnswer) (device : PortDevice) → Memᴰ (Device device) answers
+receiver_of : (answers : List (Option PortDevice)) (device : PortDevice) → Memᴰ (Some device) answers
     → Memᴰ device (receivers answers)
 unfolding receivers
 receiver_of [] device m = elim m [ ]
-receiver_of (NoMatch ∷ answers) device (Memᴰ.head e) = zero_not_one (cc)
-receiver_of (NoMatch ∷ answers) device (Memᴰ.tail m) = receiver_of answers device m
-receiver_of (Device d ∷ answers) device (Memᴰ.head e) = let same : device ≡ d = cc in Memᴰ.head same
-receiver_of (Device d ∷ answers) device (Memᴰ.tail m) = Memᴰ.tail (receiver_of answers device m)
+receiver_of (None ∷ answers) device (Memᴰ.head e) = zero_not_one (cc)
+receiver_of (None ∷ answers) device (Memᴰ.tail m) = receiver_of answers device m
+receiver_of (Some d ∷ answers) device (Memᴰ.head e) = let same : device ≡ d = cc in Memᴰ.head same
+receiver_of (Some d ∷ answers) device (Memᴰ.tail m) = Memᴰ.tail (receiver_of answers device m)
 
 port_among : (pages : List ℕ) (address port : ℕ) → port < 4
     → Memᴰ (on_port pages port address) (on_ports pages address)
@@ -126,8 +124,8 @@ every_reader_hears hub address =
     go (addressee_of hub address) (on_port pages port address) (receivers (on_ports pages address))
     (λ device e. receiver_of (on_ports pages address) device (rw e at own)) refl refl
   where
-    go : (a : Addressee) (own : PortAnswer) (ds : List PortDevice)
-        → ((device : PortDevice) → own ≡ Device device → Memᴰ device ds)
+    go : (a : Addressee) (own : Option PortDevice) (ds : List PortDevice)
+        → ((device : PortDevice) → own ≡ Some device → Memᴰ device ds)
         → who_answers_read hub address ≡ answered_by a (answered own ds)
         → who_hears_write hub address ≡ answered_by a (given (reached ds)) → ReaderHears hub address
     go OutOfRange own ds among r w =
@@ -138,16 +136,16 @@ every_reader_hears hub address =
         }
     go TheHub own ds among r w =
         record { device = λ f e. zero_not_one (cc); the_hub = λ e. w; none = λ e. zero_not_one (cc) }
-    go Ports (Device d) [] among r w = absurd (elim (among d refl) [ ])
-    go Ports (Device d) (x ∷ ds) among r w =
+    go Ports (Some d) [] among r w = absurd (elim (among d refl) [ ])
+    go Ports (Some d) (x ∷ ds) among r w =
         record {
           device = λ f e. record { devices = x ∷ ds; answer = w; member = among f (cc) };
           the_hub = λ e. zero_not_one (cc);
           none = λ e. zero_not_one (cc);
         }
-    go Ports NoMatch [] among r w =
+    go Ports None [] among r w =
         record { device = λ f e. zero_not_one (cc); the_hub = λ e. zero_not_one (cc); none = λ e. r }
-    go Ports NoMatch (d ∷ []) among r w =
+    go Ports None (d ∷ []) among r w =
         record {
           device = λ f e.
               (let same : f ≡ d = cc in
@@ -155,7 +153,7 @@ every_reader_hears hub address =
           the_hub = λ e. zero_not_one (cc);
           none = λ e. zero_not_one (cc);
         }
-    go Ports NoMatch (d ∷ x ∷ ds) among r w =
+    go Ports None (d ∷ x ∷ ds) among r w =
         record {
           device = λ f e. zero_not_one (cc);
           the_hub = λ e. zero_not_one (cc);

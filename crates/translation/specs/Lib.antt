@@ -1,3 +1,4 @@
-pub mod Translation
-pub mod Laws
 pub mod Collecting
+pub mod Laws
+pub mod Refusals
+pub mod Translation

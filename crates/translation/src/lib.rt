@@ -1,14 +1,15 @@
 // I2C address translation: which devices hear a write to an address on the bus, and which device answers a read of it.
 #![tactic(auto)]
 
-ghost use Rattle.std.specs.Prelude.{◌≡◌, [], ◌∷◌, ◌++◌, ◌<◌, take};
+ghost use Rattle.std.specs.Prelude.{◌≡◌, [], ◌∷◌, ◌++◌, ◌<◌, take, slice_get, None};
 ghost use Rattle.translation.specs.Translation.{alias_matches, target_from, on_port, on_ports, receivers};
 ghost use Rattle.translation.specs.Translation.{addressee_of, devices_of, write_reply, who_hears_write};
 ghost use Rattle.translation.specs.Translation.{answered, read_reply, who_answers_read};
-ghost use Rattle.translation.specs.declared.PortAnswer.TheVariants.{NoMatch};
-ghost use Rattle.translation.specs.Collecting.{collected};
+ghost use Rattle.translation.specs.Refusals.{write_refusal_number, read_refusal_number};
+ghost use Rattle.translation.specs.Collecting.{collected, addressee_reply};
 
 use hub::Hub;
+use refusals::Refusal;
 use registers::{bits, map};
 
 // A device behind a port, with its address on the remote bus: whether it is a serializer or a target, with its number.
@@ -25,13 +26,6 @@ pub struct PortDevice {
     pub remote: Remote,
 }
 
-// The port's device for an address, if the port matches.
-#[derive(Clone, Copy)]
-pub enum PortAnswer {
-    NoMatch,
-    Device(PortDevice),
-}
-
 // The devices that a write reaches, ports rising: at most one a port.
 #[derive(Clone, Copy)]
 pub enum Devices {
@@ -41,74 +35,108 @@ pub enum Devices {
     Four(PortDevice, PortDevice, PortDevice, PortDevice),
 }
 
-// Who hears a write.
+// Whom an address is for: the hub, no device, or what was found behind the ports.
 #[derive(Clone, Copy)]
-pub enum WriteAnswer {
-    AddressAbove7F,
+pub enum Addressed<D> {
     Hub,
     NoDevice,
-    Devices(Devices),
+    Found(D),
 }
 
-// Who answers a read.
+// Why nobody is asked for a write.
 #[derive(Clone, Copy)]
-pub enum ReadAnswer {
+pub enum WriteRefusal {
+    AddressAbove7F,
+}
+
+impl Refusal for WriteRefusal {
+    ghost number = { write_refusal_number };
+
+    fn number(self) -> u8 {
+        match self {
+            WriteRefusal::AddressAbove7F => 2,
+        }
+    }
+}
+
+// Why nobody answers a read.
+#[derive(Clone, Copy)]
+pub enum ReadRefusal {
     AddressAbove7F,
     Unclear,
-    Hub,
-    NoDevice,
-    Device(PortDevice),
 }
 
-// Whom an address may be for: nobody, because it has more than 7 bits; the hub; or devices behind the ports.
-#[derive(Clone, Copy)]
-enum Addressee {
-    OutOfRange,
-    TheHub,
-    Ports,
+impl Refusal for ReadRefusal {
+    ghost number = { read_refusal_number };
+
+    fn number(self) -> u8 {
+        match self {
+            ReadRefusal::AddressAbove7F => 2,
+            ReadRefusal::Unclear => 9,
+        }
+    }
 }
 
-// The devices of the ports that match.
-#[derive(Clone, Copy)]
-enum Receivers {
-    NoDevice,
-    Devices(Devices),
+impl From<WriteRefusal> for ReadRefusal {
+    ghost from_gives = { λ e r. read_refusal_number r ≡ write_refusal_number e };
+
+    fn from(refusal: WriteRefusal) -> ReadRefusal {
+        match refusal {
+            WriteRefusal::AddressAbove7F => ReadRefusal::AddressAbove7F,
+        }
+    }
 }
 
-// Whom the address is for, before the ports are asked.
-fn addressee_of(hub: Hub, address: u8) -> Addressee
-    ensures { result ≡ addressee_of hub address }
+impl Devices {
+    // The device at place `k`, from 0 on.
+    pub fn get(self, k: usize) -> Option<PortDevice>
+        ensures { result ≡ slice_get (devices_of self) k }
+    {
+        match (k, self) {
+            (
+                0,
+                Devices::One(a)
+                | Devices::Two(a, ..)
+                | Devices::Three(a, ..)
+                | Devices::Four(a, ..),
+            ) => Some(a),
+            (1, Devices::Two(_, b) | Devices::Three(_, b, _) | Devices::Four(_, b, ..)) => Some(b),
+            (2, Devices::Three(.., c) | Devices::Four(_, _, c, _)) => Some(c),
+            (3, Devices::Four(.., d)) => Some(d),
+            _ => None,
+        }
+    }
+}
+
+// Whether the address is the hub's own, before the ports are asked.
+#[tactic(auto, unfolding(crate::specs::Translation::addressee_of))]
+fn is_own(hub: Hub, address: u8) -> Result<bool, WriteRefusal>
+    ensures { addressee_reply result ≡ addressee_of hub address }
 {
     if 0x7F < address {
-        return Addressee::OutOfRange;
+        return Err(WriteRefusal::AddressAbove7F);
     }
-    if address == hub.address {
-        return Addressee::TheHub;
-    }
-    Addressee::Ports
+    Ok(address == hub.address)
 }
 
 // Whether an alias register is on and has the address in its bits 7 to 1.
+#[tactic(auto, unfolding(crate::specs::Translation::alias_matches))]
 fn alias_matches(register: u8, address: u8) -> bool
     ensures { result ≡ alias_matches register address }
 {
     let alias = register / 2;
-    if alias == 0 {
-        return false;
-    }
-    alias == address
+    alias != 0 && alias == address
 }
 
 // The lowest-numbered target of `port` whose alias has the address.
-fn target_on(pages: &[u8; 1024], port: u8, address: u8) -> PortAnswer
+fn target_on(pages: &[u8; 1024], port: u8, address: u8) -> Option<PortDevice>
     requires { port < 4 }
     ensures { result ≡ target_from pages.now port address 0 8 }
 {
     let page = 256 * (port as usize);
-    let mut k: u8 = 0;
-    while k < 8 {
+    for k in 0..8u8 {
         if alias_matches(pages[page + (map::TARGET_ALIAS_0 + k as usize)], address) {
-            return PortAnswer::Device(PortDevice {
+            return Some(PortDevice {
                 port,
                 remote: Remote::Target {
                     number: k,
@@ -116,22 +144,22 @@ fn target_on(pages: &[u8; 1024], port: u8, address: u8) -> PortAnswer
                 },
             });
         }
-        k += 1;
     }
-    PortAnswer::NoMatch
+    None
 }
 
 // The device of `port` for the address: none unless bit 6 of BCC_CONFIG, I2C_PASS_THROUGH, is set.
-fn on_port(pages: &[u8; 1024], port: u8, address: u8) -> PortAnswer
+#[tactic(auto, unfolding(crate::specs::Translation::on_port))]
+fn on_port(pages: &[u8; 1024], port: u8, address: u8) -> Option<PortDevice>
     requires { port < 4 }
     ensures { result ≡ on_port pages.now port address }
 {
     let page = 256 * (port as usize);
     if !bits::is_set(pages[page + map::BCC_CONFIG], 6) {
-        return PortAnswer::NoMatch;
+        return None;
     }
     if alias_matches(pages[page + map::SER_ALIAS_ID], address) {
-        return PortAnswer::Device(PortDevice {
+        return Some(PortDevice {
             port,
             remote: Remote::Serializer {
                 address: pages[page + map::SER_ID] / 2,
@@ -141,102 +169,71 @@ fn on_port(pages: &[u8; 1024], port: u8, address: u8) -> PortAnswer
     target_on(pages, port, address)
 }
 
-// One device more; there is no place for a fifth.
-fn one_more(devices: Devices, d: PortDevice) -> Devices
-    ensures { devices_of result ≡ take 4 (devices_of devices ++ (d ∷ [])) }
-{
-    match devices {
-        Devices::One(a) => Devices::Two(a, d),
-        Devices::Two(a, b) => Devices::Three(a, b, d),
-        Devices::Three(a, b, c) => Devices::Four(a, b, c, d),
-        Devices::Four(a, b, c, e) => Devices::Four(a, b, c, e),
-    }
-}
-
-// The receivers so far, and one device more.
-fn with_device(so_far: Receivers, d: PortDevice) -> Receivers
-    ensures { collected result ≡ take 4 (collected so_far ++ (d ∷ [])) }
+// The devices so far, and one device more; there is no place for a fifth.
+fn with_device(so_far: Option<Devices>, d: PortDevice) -> Devices
+    ensures { devices_of result ≡ take 4 (collected so_far ++ (d ∷ [])) }
 {
     match so_far {
-        Receivers::NoDevice => Receivers::Devices(Devices::One(d)),
-        Receivers::Devices(devices) => Receivers::Devices(one_more(devices, d)),
-    }
-}
-
-// The receivers so far, and one port's answer more.
-fn with_port(so_far: Receivers, answer: PortAnswer) -> Receivers
-    ensures { collected result ≡ take 4 (collected so_far ++ receivers (answer ∷ [])) }
-{
-    match answer {
-        PortAnswer::NoMatch => so_far,
-        PortAnswer::Device(d) => with_device(so_far, d),
+        None => Devices::One(d),
+        Some(Devices::One(a)) => Devices::Two(a, d),
+        Some(Devices::Two(a, b)) => Devices::Three(a, b, d),
+        Some(Devices::Three(a, b, c)) => Devices::Four(a, b, c, d),
+        Some(four) => four,
     }
 }
 
 // The devices of the ports that match, ports rising.
-fn receivers_of(pages: &[u8; 1024], address: u8) -> Receivers
+fn receivers_of(pages: &[u8; 1024], address: u8) -> Option<Devices>
     ensures { collected result ≡ receivers (on_ports pages.now address) }
 {
-    let none = Receivers::NoDevice;
-    let port_0 = with_port(none, on_port(pages, 0, address));
-    let port_1 = with_port(port_0, on_port(pages, 1, address));
-    let port_2 = with_port(port_1, on_port(pages, 2, address));
-    with_port(port_2, on_port(pages, 3, address))
+    let mut so_far = None;
+    for port in 0..4u8 {
+        if let Some(device) = on_port(pages, port, address) {
+            so_far = Some(with_device(so_far, device));
+        }
+    }
+    so_far
 }
 
 // Who hears a write to the address.
-pub fn who_hears_write(hub: Hub, address: u8) -> WriteAnswer
+#[tactic(auto, unfolding(crate::specs::Translation::who_hears_write))]
+pub fn who_hears_write(hub: Hub, address: u8) -> Result<Addressed<Devices>, WriteRefusal>
     ensures { write_reply result ≡ who_hears_write hub address }
 {
-    match addressee_of(hub, address) {
-        Addressee::OutOfRange => WriteAnswer::AddressAbove7F,
-        Addressee::TheHub => WriteAnswer::Hub,
-        Addressee::Ports => {
-            let file = hub.registers;
-            match receivers_of(&file.pages, address) {
-                Receivers::NoDevice => WriteAnswer::NoDevice,
-                Receivers::Devices(devices) => WriteAnswer::Devices(devices),
-            }
-        }
+    let own = is_own(hub, address)?;
+    if own {
+        return Ok(Addressed::Hub);
+    }
+    let file = hub.registers;
+    match receivers_of(&file.pages, address) {
+        None => Ok(Addressed::NoDevice),
+        Some(devices) => Ok(Addressed::Found(devices)),
     }
 }
 
-// Who answers a read by the devices of the ports that match: the one there is.
-fn only_device(devices: Devices) -> ReadAnswer
-    ensures { read_reply result ≡ answered NoMatch (devices_of devices) }
-{
-    match devices {
-        Devices::One(a) => ReadAnswer::Device(a),
-        Devices::Two(_, _) => ReadAnswer::Unclear,
-        Devices::Three(_, _, _) => ReadAnswer::Unclear,
-        Devices::Four(_, _, _, _) => ReadAnswer::Unclear,
-    }
-}
-
-// Who answers a read where the read port does not match.
-fn only_receiver(pages: &[u8; 1024], address: u8) -> ReadAnswer
-    ensures { read_reply result ≡ answered NoMatch (receivers (on_ports pages.now address)) }
+// Who answers a read where the read port does not match: the one device of the ports that do.
+fn only_receiver(pages: &[u8; 1024], address: u8) -> Result<Addressed<PortDevice>, ReadRefusal>
+    ensures { read_reply result ≡ answered None (receivers (on_ports pages.now address)) }
 {
     match receivers_of(pages, address) {
-        Receivers::NoDevice => ReadAnswer::NoDevice,
-        Receivers::Devices(devices) => only_device(devices),
+        None => Ok(Addressed::NoDevice),
+        Some(Devices::One(device)) => Ok(Addressed::Found(device)),
+        Some(_) => Err(ReadRefusal::Unclear),
     }
 }
 
 // Who answers a read of the address.
-pub fn who_answers_read(hub: Hub, address: u8) -> ReadAnswer
+#[tactic(auto, unfolding(crate::specs::Translation::who_answers_read))]
+pub fn who_answers_read(hub: Hub, address: u8) -> Result<Addressed<PortDevice>, ReadRefusal>
     ensures { read_reply result ≡ who_answers_read hub address }
 {
-    match addressee_of(hub, address) {
-        Addressee::OutOfRange => ReadAnswer::AddressAbove7F,
-        Addressee::TheHub => ReadAnswer::Hub,
-        Addressee::Ports => {
-            let file = hub.registers;
-            let read_port = registers::read_port(file);
-            match on_port(&file.pages, read_port, address) {
-                PortAnswer::Device(d) => ReadAnswer::Device(d),
-                PortAnswer::NoMatch => only_receiver(&file.pages, address),
-            }
-        }
+    if is_own(hub, address)? {
+        return Ok(Addressed::Hub);
+    }
+    let file = hub.registers;
+    let read_port = registers::read_port(file);
+    match on_port(&file.pages, read_port, address) {
+        Some(device) => Ok(Addressed::Found(device)),
+        None => only_receiver(&file.pages, address),
     }
 }

@@ -25,17 +25,17 @@ pub returns-then-alias_matches : goal.returns-then-alias_matches
 returns-then-alias_matches c =
     let l = c.loop-k in
     let hit = sym c.alias_matches.ensures ∙ c.if-alias_matches.true in
-    sym (target_step _ _ _ l.k (omega arith) ∙ rw hit) ∙ l.invariant.1
+    sym (target_step _ _ _ l.k (omega arith) ∙ rw hit) ∙ l.invariant
 
 pub loop-k-preserved : goal.loop-k-preserved
 loop-k-preserved c =
     let l = c.loop-k in
     let missed = sym c.alias_matches.ensures ∙ c.if-alias_matches.false in
-    (omega arith, sym (target_step _ _ _ l.k (omega arith) ∙ rw missed) ∙ l.invariant.1)
+    sym (target_step _ _ _ l.k (omega arith) ∙ rw missed) ∙ l.invariant
 
 pub returns : goal.returns
 unfolding target_from
 returns c =
     let l = c.loop-k in
     let none : 8 - l.k ≡ 0 = omega arith in
-    rw none at l.invariant.1
+    rw none at l.invariant
