@@ -47,33 +47,22 @@ pub fn ignores_bits(offset: u8, value: u8) -> bool
 fn selected_ports(selection: u8) -> u8
     ensures { result ≡ port_mask (λ port. bit port selection) }
 {
-    ports::mask_of_four(
-        bits::is_set(selection, 0),
-        bits::is_set(selection, 1),
-        bits::is_set(selection, 2),
-        bits::is_set(selection, 3),
-    )
+    ports::mask_of(|port| bits::is_set(selection, port))
 }
 
-// Whether the register of a port differs.
+// Whether the register of a port differs; there is none above port 3.
 fn port_differs(before: RegisterFile, after: RegisterFile, port: u8, offset: u8) -> bool
-    requires { port < 4 }
-    ensures { result ≡ differs before after (port_register port offset) }
+    ensures { port < 4 → result ≡ differs before after (port_register port offset) }
 {
     let at = 256 * (port as usize) + offset as usize;
-    after.pages[at] != before.pages[at]
+    at < 1024 && after.pages[at] != before.pages[at]
 }
 
 // The ports whose register differs.
 fn differing_ports(before: RegisterFile, after: RegisterFile, offset: u8) -> u8
     ensures { result ≡ port_mask (λ port. differs before after (port_register port offset)) }
 {
-    ports::mask_of_four(
-        port_differs(before, after, 0, offset),
-        port_differs(before, after, 1, offset),
-        port_differs(before, after, 2, offset),
-        port_differs(before, after, 3, offset),
-    )
+    ports::mask_of(|port| port_differs(before, after, port, offset))
 }
 
 // What a write to a per-port register does, of which some bit is writable.
