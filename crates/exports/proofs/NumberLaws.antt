@@ -17,12 +17,12 @@ use Rattle.laws.proofs.Replies.{room_by}
 use Rattle.formats.specs.declared.Format.{Format}
 use Rattle.formats.specs.Formats.{format_of}
 use Rattle.formats.proofs.FormatLaws.{by_format}
-use Rattle.ecc.specs.declared.Corrected.{Corrected}
-use Rattle.ecc.specs.declared.Corrected.TheVariants.{Nothing, HeaderBit}
-use Rattle.ecc.specs.HeaderCorrection.{ReadHeader, flipped, correction_of}
+use Rattle.std.specs.Prelude.{Option, None, Some, Result, Ok, Err}
+use Rattle.ecc.specs.declared.ReadHeader.{ReadHeader}
+use Rattle.ecc.specs.HeaderCorrection.{flipped, correction_of}
 use Rattle.ecc.proofs.Near.{by_correction}
-use Rattle.packing.specs.declared.check.PixelCheck.{PixelCheck}
-use Rattle.packing.specs.declared.check.PixelCheck.TheVariants.{WidthNotAllowed, PixelTooLarge, Fit}
+use Rattle.packing.specs.declared.check.PixelRefusal.{PixelRefusal}
+use Rattle.packing.specs.declared.check.PixelRefusal.TheVariants.{WidthNotAllowed, PixelTooLarge}
 use Rattle.packing.specs.Raw.{payload_of}
 use Rattle.packing.specs.Packing.{check_of, after_check, if_pixels, pack_reply}
 use Rattle.packing.proofs.RawLaws.{length_payload, payload_small}
@@ -35,7 +35,8 @@ use Rattle.unpacking.proofs.RoundLaws.{payload_tells}
 use Rattle.csi2.specs.Packets.{is_short}
 use Rattle.csi2.specs.Writers.{packet_reply, pixel_line_reply}
 use Rattle.csi2.proofs.WriterLaws.{length-packet}
-use Rattle.reader.specs.Reader.{Packet, header_number, header_packet, checksum_matches, read_body, read_packet}
+use Rattle.reader.specs.declared.Packet.{Packet}
+use Rattle.reader.specs.Reader.{header_number, header_packet, checksum_matches, read_body, read_packet}
 use Rattle.exports.specs.Numbers.{corrected_number, correction_number, packet_number}
 use Rattle.exports.specs.Numbers.{corrected_of_number, correction_of_number, packet_of_number}
 use Rattle.exports.specs.Numbers.{InBounds, Unambiguous, NumbersUnambiguous}
@@ -62,10 +63,10 @@ module _ (most : ℕ) where
       rw (room_by size place bytes (length bytes) refl refl)
       (either CountIn (has_room size place (length bytes)) h (omega arith, omega arith, refl))
 
-  check_in : (check : PixelCheck) (next : Reply (List ℕ)) → (check ≡ Fit → CountIn next) → CountIn (after_check check next)
-  check_in WidthNotAllowed next p = (omega arith, omega arith, refl)
-  check_in PixelTooLarge next p = (omega arith, omega arith, refl)
-  check_in Fit next p = p refl
+  check_in : (check : Result Unit PixelRefusal) (next : Reply (List ℕ)) → (check ≡ Ok tt → CountIn next) → CountIn (after_check check next)
+  check_in (Err WidthNotAllowed) next p = (omega arith, omega arith, refl)
+  check_in (Err PixelTooLarge) next p = (omega arith, omega arith, refl)
+  check_in (Ok tt) next p = p refl
 
   pixels_in : (format : Format) (pixels : List ℕ) (next : Reply (List ℕ)) → (length pixels ≤ 4096 → CountIn next)
       → CountIn (if_pixels format pixels next)
@@ -98,15 +99,15 @@ unpacked_in bits payload size =
     go format false e = (omega arith, omega arith, refl)
 
 -- the bit that was wrong
-bit_back : (corrected : Corrected) → corrected_of_number (corrected_number corrected) ≡ corrected
-bit_back Nothing = refl
-bit_back (HeaderBit bit) = ap corrected_of_number (one-add bit)
+bit_back : (corrected : Option ℕ) → corrected_of_number (corrected_number corrected) ≡ corrected
+bit_back None = refl
+bit_back (Some bit) = ap corrected_of_number (one-add bit)
 
 -- headers
 abbrev HeaderIn : Reply ReadHeader → Type 0
 HeaderIn reply = InBounds (2 ^ 38) (on_reply correction_number reply) × (on_reply correction_of_number (on_reply correction_number reply) ≡ reply)
 
-header_in : (header : ℕ) (corrected : Corrected) → header < 2 ^ 32 → corrected_number corrected ≤ 32
+header_in : (header : ℕ) (corrected : Option ℕ) → header < 2 ^ 32 → corrected_number corrected ≤ 32
     → HeaderIn (given (record { header = header; corrected = corrected }))
 header_in header corrected h b =
     let value = correction_number (record { header = header; corrected = corrected }) in
@@ -117,14 +118,14 @@ header_in header corrected h b =
 correction_in : (header : ℕ) → header < 2 ^ 32 → HeaderIn (correction_of header)
 correction_in header h =
     by_correction header HeaderIn ((omega arith, omega arith, refl), refl)
-    (λ i l r. header_in (flipped header i) (HeaderBit i) (xor_lt 32 header (2 ^ i) h (pow-lt l)) (omega arith))
-    (λ r. header_in header Nothing h (omega arith))
+    (λ i l r. header_in (flipped header i) (Some i) (xor_lt 32 header (2 ^ i) h (pow-lt l)) (omega arith))
+    (λ r. header_in header None h (omega arith))
 
 -- packets
 abbrev PacketIn : Reply Packet → Type 0
 PacketIn reply = InBounds (2 ^ 30) (on_reply packet_number reply) × (on_reply packet_of_number (on_reply packet_number reply) ≡ reply)
 
-packet_in : (header : ℕ) (corrected : Corrected) → corrected_number corrected ≤ 32
+packet_in : (header : ℕ) (corrected : Option ℕ) → corrected_number corrected ≤ 32
     → PacketIn (given (header_packet (record { header = header; corrected = corrected })))
 packet_in header corrected b =
     let packet = header_packet (record { header = header; corrected = corrected }) in
@@ -148,8 +149,8 @@ read_in bytes =
     either PacketIn (ltb (length bytes) 4) ((omega arith, omega arith, refl), refl)
     (by_correction (header_number bytes) (λ reply. PacketIn (and_then reply (λ read. read_body (drop 4 bytes) (header_packet read))))
     ((omega arith, omega arith, refl), refl)
-    (λ i l r. body_in (drop 4 bytes) _ (packet_in (flipped (header_number bytes) i) (HeaderBit i) (omega arith)))
-    (λ r. body_in (drop 4 bytes) _ (packet_in (header_number bytes) Nothing (omega arith))))
+    (λ i l r. body_in (drop 4 bytes) _ (packet_in (flipped (header_number bytes) i) (Some i) (omega arith)))
+    (λ r. body_in (drop 4 bytes) _ (packet_in (header_number bytes) None (omega arith))))
 
 pub numbers_unambiguous : NumbersUnambiguous
 numbers_unambiguous =

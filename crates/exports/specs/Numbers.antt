@@ -1,18 +1,18 @@
 -- How an answer is handed to a caller in C or Rust: as one number of 64 bits, with the number of a refusal in its top
 -- byte.
 -- Assumes nothing.
-use Rattle.std.specs.Prelude.{◌≡◌, cond, List, ℕ, zero, suc, ◌+◌, ◌*◌, ◌/◌, ◌%◌, ◌^◌, ◌≤◌, ◌<◌, eqb}
+use Rattle.std.specs.Prelude.{◌≡◌, cond, List, ℕ, zero, suc, ◌+◌, ◌*◌, ◌/◌, ◌%◌, ◌^◌, ◌≤◌, ◌<◌, eqb, Option, None, Some}
 use Rattle.std.proofs.Math.Option.{none}
 use Rattle.laws.specs.Reply.{Reply, refused, refused_with, given, on_reply}
 use Rattle.laws.specs.Buffers.{after_reply, count_of}
 use Rattle.formats.specs.declared.Format.{Format}
-use Rattle.ecc.specs.declared.Corrected.{Corrected}
-use Rattle.ecc.specs.declared.Corrected.TheVariants.{Nothing, HeaderBit}
-use Rattle.ecc.specs.HeaderCorrection.{ReadHeader, correction_of}
+use Rattle.ecc.specs.declared.ReadHeader.{ReadHeader}
+use Rattle.ecc.specs.HeaderCorrection.{correction_of}
 use Rattle.packing.specs.Packing.{pack_reply}
 use Rattle.unpacking.specs.Unpacking.{unpack_reply}
 use Rattle.csi2.specs.Writers.{pixel_line_reply}
-use Rattle.reader.specs.Reader.{Packet, read_packet}
+use Rattle.reader.specs.declared.Packet.{Packet}
+use Rattle.reader.specs.Reader.{read_packet}
 
 abbrev pub reply_number : Reply ℕ → ℕ
 reply_number (refused_with number detail) = number * 2 ^ 56
@@ -25,9 +25,9 @@ pub record WritesNumber (before : List ℕ) (place : ℕ) (reply : Reply (List �
   pub buffer : after ≡ after_reply before place reply
 
 -- which of a header's 32 bits was wrong, counted from 1; 0 where none was
-abbrev pub corrected_number : Corrected → ℕ
-corrected_number Nothing = 0
-corrected_number (HeaderBit bit) = 1 + bit
+abbrev pub corrected_number : Option ℕ → ℕ
+corrected_number None = 0
+corrected_number (Some bit) = 1 + bit
 
 -- a corrected header: its four bytes, then the bit
 abbrev pub correction_number : ReadHeader → ℕ
@@ -42,9 +42,9 @@ packet_number packet =
 abbrev pub reply_of_number : ℕ → Reply ℕ
 reply_of_number number = cond (eqb (number / 2 ^ 56) 0) (given number) (refused (number / 2 ^ 56))
 
-abbrev pub corrected_of_number : ℕ → Corrected
-corrected_of_number zero = Nothing
-corrected_of_number (suc bit) = HeaderBit bit
+abbrev pub corrected_of_number : ℕ → Option ℕ
+corrected_of_number zero = None
+corrected_of_number (suc bit) = Some bit
 
 abbrev pub correction_of_number : ℕ → ReadHeader
 correction_of_number value = record { header = value % 2 ^ 32; corrected = corrected_of_number (value / 2 ^ 32) }

@@ -57,7 +57,7 @@ fn pack_as(format: Format, pixels: &[u16], buf: &mut [u8], place: usize) -> u64
     ensures { WritesNumber buf.old place
         (pack_reply format pixels.now (length buf.old) place) result buf.new }
 {
-    numbers::of_pack_answer(packing::pack_pixels(format, pixels, buf, place))
+    numbers::of_count(packing::pack_pixels(format, pixels, buf, place))
 }
 
 // Packs a pixel line of RAW10 from the place; or refuses it and writes nothing. How many bytes were packed.
@@ -85,7 +85,7 @@ pub extern "C" fn loopcinder_unpack(bits: u8, payload: &[u8], pixels: &mut [u16]
     ensures { WritesNumber pixels.old 0
         (unpack_reply bits payload.now (length pixels.old)) result pixels.new }
 {
-    numbers::of_unpack_answer(unpacking::unpack_pixels(bits, payload, pixels))
+    numbers::of_count(unpacking::unpack_pixels(bits, payload, pixels))
 }
 
 // Writes a pixel line as a long packet from the place; or refuses it and writes nothing.
@@ -94,7 +94,7 @@ fn write_as(format: Format, pixels: &[u16], identifier: u8, buf: &mut [u8], plac
         (pixel_line_reply format pixels.now identifier (length buf.old) place)
         result buf.new }
 {
-    numbers::of_long_answer(long::write_pixel_line(format, pixels, identifier, buf, place))
+    numbers::of_count(long::write_pixel_line(format, pixels, identifier, buf, place))
 }
 
 // Writes a pixel line of RAW10 as a long packet from the place; or refuses it and writes nothing. How many bytes were
@@ -133,7 +133,7 @@ pub extern "C" fn loopcinder_write_raw12_line(
 pub extern "C" fn loopcinder_read_packet(bytes: &[u8]) -> u64
     ensures { result ≡ reply_number (on_reply packet_number (read_packet bytes.now)) }
 {
-    numbers::of_packet_read(reader::read_packet(bytes))
+    numbers::of_packet(reader::read_packet(bytes))
 }
 
 // How many bytes the payload of the packet at the start of the bytes has: they stand after its header's four; 0 on
@@ -142,6 +142,5 @@ pub extern "C" fn loopcinder_read_packet(bytes: &[u8]) -> u64
 pub extern "C" fn loopcinder_payload_length(bytes: &[u8]) -> usize
     ensures { result ≡ length (payload_read bytes.now) }
 {
-    let payload = reader::payload(bytes);
-    payload.len()
+    reader::payload(bytes).len()
 }
