@@ -1,5 +1,8 @@
 -- The definitions of specs/Addresses.antt by their cases, and the laws of it.
 -- Assumes nothing.
+use Rattle.std.proofs.Common.{length, get_or, drop, drop-cons, drop_of_length-le, ◌≤◌, ne_eqb}
+use Rattle.std.specs.Prelude.{None, Some, slice_get}
+use Rattle.std.proofs.lemmas.Option.{slice_get_within, get_or_from_slice_get, slice_get_cases}
 use mathlib.Core.Path.{◌≡◌, refl, sym, ap, ◌∙◌}
 use mathlib.Core.Bool.{Bool, true, false, cond, not}
 use mathlib.Core.List.{List, [], ◌∷◌, Memᴰ}
@@ -15,27 +18,15 @@ use Rattle.laws.proofs.Absurd.{zero_not_one}
 use Rattle.laws.proofs.Bools.{both}
 use Rattle.hub.specs.declared.Hub.{Hub}
 use Rattle.translation.specs.declared.PortDevice.{PortDevice}
-use Rattle.translation.specs.Translation.{Addressed, the_hub, no_device, found, addressee_of, who_hears_write}
+use Rattle.translation.specs.declared.Addressed.{Addressed}
+use Rattle.translation.specs.declared.Addressed.TheVariants.{Hub as the_hub, NoDevice as no_device, Found as found}
+use Rattle.translation.specs.declared.Devices.{Devices}
+use Rattle.translation.specs.Translation.{devices_of, addressee_of, who_hears_write}
 use Rattle.clashes.specs.Channels.{is_forwarded}
 use Rattle.clashes.specs.Addresses.{any_behind, answer_reaches, address_reaches, any_below, is_reached, has_no_address}
 use Rattle.clashes.specs.Addresses.{Hearer, AddressReachesExact, AddressSharedExact, ReachedMeans, ReachedExact}
 use Rattle.clashes.specs.Addresses.{address_shared, OnlyTheseAddresses, NoAddressExact}
 use Rattle.clashes.proofs.TwoPorts.{two_only, two_every}
-
-module _ (hub : Hub) (address port : ℕ) {reply : Reply (Addressed (List PortDevice))}
-    (e : reply ≡ who_hears_write hub address) where
-  pub address_reaches_by : answer_reaches port reply ≡ address_reaches hub address port
-  unfolding address_reaches
-  address_reaches_by = rw e
-
-module _ (hub : Hub) (port : ℕ) where
-  pub not-forwarded : is_forwarded hub port ≡ false → has_no_address hub port ≡ false
-  unfolding has_no_address
-  not-forwarded e = rw e
-
-  pub forwarded_only : is_forwarded hub port ≡ true → has_no_address hub port ≡ not (is_reached hub port)
-  unfolding has_no_address
-  forwarded_only e = rw e
 
 -- a device behind the port
 record Behind (port : ℕ) (devices : List PortDevice) : Type 0 where
@@ -67,6 +58,48 @@ behind_hit port (first ∷ devices) device (Memᴰ.tail m) e =
     go : (b : Bool) → any_behind port devices ≡ true → cond b true (any_behind port devices) ≡ true
     go true h = refl
     go false h = h
+
+-- the search goes through the places one after the other
+module _ (port : ℕ) (devices : List PortDevice) (k : ℕ) where
+  from_here : (device : PortDevice) → slice_get devices k ≡ Some device
+      → drop k devices ≡ device ∷ drop (k + 1) devices
+  from_here device e =
+      let h : k < length devices = slice_get_within devices k device e in
+      rw (add-one k, drop-cons devices k device h)
+      (ap (λ (d : PortDevice). d ∷ drop (suc k) devices) (get_or_from_slice_get devices k device device e))
+
+  pub behind_here : (device : PortDevice) → slice_get devices k ≡ Some device → device.port ≡ port
+      → any_behind port (drop k devices) ≡ true
+  unfolding any_behind
+  behind_here device e b = rw (from_here device e, eq-eqb device.port port b)
+
+  pub not_here : (device : PortDevice) → slice_get devices k ≡ Some device → (device.port ≡ port → ⊥)
+      → any_behind port (drop (k + 1) devices) ≡ any_behind port (drop k devices)
+  unfolding any_behind
+  not_here device e n = rw (from_here device e, ne_eqb device.port port n)
+
+  pub nobody_here : slice_get devices k ≡ None
+      → any_behind port (drop (k + 1) devices) ≡ any_behind port (drop k devices)
+  nobody_here e = go (slice_get_cases devices k).1
+    where
+      go : ((x : PortDevice) × (k < length devices) × (slice_get devices k ≡ Some x) × (get_or devices k x ≡ x))
+          ⊎ ((length devices ≤ k) × (slice_get devices k ≡ None))
+          → any_behind port (drop (k + 1) devices) ≡ any_behind port (drop k devices)
+      go (inl s) = zero_not_one (cc)
+      go (inr p) =
+          rw (drop_of_length-le devices {i = k} p.0, drop_of_length-le devices {i = k + 1} (omega (arith, p.0)))
+
+-- there are at most four
+pub past_four : (port : ℕ) (devices : Devices) (k : ℕ) → 4 ≤ k → any_behind port (drop k (devices_of devices)) ≡ false
+unfolding any_behind
+past_four port devices k h =
+    rw (drop_of_length-le (devices_of devices) {i = k} (omega (arith, few devices)))
+  where
+    few : (d : Devices) → length (devices_of d) ≤ 4
+    few (Devices.One a) = omega arith
+    few (Devices.Two a b) = omega arith
+    few (Devices.Three a b c) = omega arith
+    few (Devices.Four a b c d) = omega arith
 
 pub address_reaches_exact : AddressReachesExact
 unfolding address_reaches

@@ -1,39 +1,23 @@
--- `clashes::addresses::any_behind` meets its contract, by the number of devices.
-use mathlib.Core.Path.{sym, ap}
-use Rattle.translation.specs.declared.Devices.{Devices}
-use Rattle.translation.specs.Translation.{devices_of}
-use Rattle.clashes.specs.Addresses.{any_behind}
+-- `clashes::addresses::any_behind` meets its contract.
+use Rattle.std.proofs.Common.{sym, ◌∙◌, arith}
+use Rattle.clashes.proofs.AddressLaws.{behind_here, not_here, nobody_here, past_four}
 use Rattle.clashes.proofs.addresses.any_behind.Goals as goal
+use Rattle.clashes.proofs.addresses.any_behind.Goals.{in-Some+else-device-port, in_default}
 
-pub returns-in-One : goal.returns-in-One
-unfolding any_behind
-returns-in-One c =
-    let a = c.args in
-    rw c.behind_or.ensures
-    (sym (ap (λ (d : Devices). any_behind a.port (devices_of d)) c.in-One.is))
+pub returns-then-device-port : goal.returns-then-device-port
+returns-then-device-port c =
+    let l = c.loop-k in
+    sym (behind_here _ _ l.k _ (sym c.in-Some.ensures) c.if-device-port.true) ∙ l.invariant
 
-pub returns-in-Two : goal.returns-in-Two
-unfolding any_behind
-returns-in-Two c =
-    let a = c.args in
-    rw (c.behind_or-in-Two-2.ensures, c.behind_or-in-Two.ensures)
-    (sym (ap (λ (d : Devices). any_behind a.port (devices_of d)) c.in-Two.is))
+pub loop-k-preserved : goal.loop-k-preserved
+loop-k-preserved c =
+    let l = c.loop-k in
+    elim c.match-get.branch [
+      | in-Some+else-device-port w ↦ not_here _ _ l.k _ (sym w.in-Some.ensures) w.if-device-port.false ∙ l.invariant
+      | in_default w ↦ nobody_here _ _ l.k (sym c.get.ensures ∙ w.in_default.is) ∙ l.invariant
+    ]
 
-pub returns-in-Three : goal.returns-in-Three
-unfolding any_behind
-returns-in-Three c =
-    let a = c.args in
-    rw (c.behind_or-in-Three-3.ensures, c.behind_or-in-Three-2.ensures, c.behind_or-in-Three.ensures)
-    (sym (ap (λ (d : Devices). any_behind a.port (devices_of d)) c.in-Three.is))
-
-pub returns-in-Four : goal.returns-in-Four
-unfolding any_behind
-returns-in-Four c =
-    let a = c.args in
-    rw (
-      c.behind_or-in-Four-4.ensures,
-      c.behind_or-in-Four-3.ensures,
-      c.behind_or-in-Four-2.ensures,
-      c.behind_or-in-Four.ensures,
-    )
-    (sym (ap (λ (d : Devices). any_behind a.port (devices_of d)) c.in-Four.is))
+pub returns : goal.returns
+returns c =
+    let l = c.loop-k in
+    sym (past_four c.args.port c.args.devices l.k (omega arith)) ∙ l.invariant
