@@ -13,8 +13,8 @@ use Rattle.translation.specs.declared.Devices.{Devices}
 use Rattle.translation.specs.declared.WriteRefusal.{WriteRefusal}
 use Rattle.translation.specs.declared.ReadRefusal.{ReadRefusal}
 use Rattle.translation.specs.Refusals.{write_refusal_number, read_refusal_number}
-pub use Rattle.translation.specs.declared.Addressed.{Addressed}
-pub use Rattle.translation.specs.declared.Addressed.TheVariants.{Hub as the_hub, NoDevice as no_device, Found as found}
+use Rattle.translation.specs.declared.Addressed.{Addressed as SourceAddressed}
+use Rattle.translation.specs.declared.Addressed.TheVariants.{Hub, NoDevice, Found}
 
 -- the address in bits 7 to 1 of a register
 abbrev pub address7 : ℕ → ℕ
@@ -57,6 +57,12 @@ unfoldable pub receivers : List (Option PortDevice) → List PortDevice
 receivers [] = []
 receivers (None ∷ answers) = receivers answers
 receivers (Some device ∷ answers) = device ∷ receivers answers
+
+-- "An answer says hub, none, or a device": for a write, the devices
+pub data Addressed (A : Type 0) : Type 0 where
+  the_hub : Addressed A
+  no_device : Addressed A
+  found : A → Addressed A
 
 -- whom an address may be for: nobody, because it has more than 7 bits; the hub; or devices behind the ports
 pub data Addressee : Type 0 where
@@ -107,15 +113,15 @@ devices_of (Devices.Two a b) = a ∷ b ∷ []
 devices_of (Devices.Three a b c) = a ∷ b ∷ c ∷ []
 devices_of (Devices.Four a b c d) = a ∷ b ∷ c ∷ d ∷ []
 
--- "An answer says hub, none, or a device": for a write, the devices
-abbrev pub listed : Addressed Devices → Addressed (List PortDevice)
-listed the_hub = the_hub
-listed no_device = no_device
-listed (found devices) = found (devices_of devices)
+-- the source's answer, with what it found as `f` says
+abbrev pub addressed_by : {D A : Type 0} → (D → A) → SourceAddressed D → Addressed A
+addressed_by f Hub = the_hub
+addressed_by f NoDevice = no_device
+addressed_by f (Found d) = found (f d)
 
 -- the two answers, with the paper's numbers of the refusals
-abbrev pub write_reply : Result (Addressed Devices) WriteRefusal → Reply (Addressed (List PortDevice))
-write_reply answer = on_reply listed (reply_by write_refusal_number answer)
+abbrev pub write_reply : Result (SourceAddressed Devices) WriteRefusal → Reply (Addressed (List PortDevice))
+write_reply answer = on_reply (addressed_by devices_of) (reply_by write_refusal_number answer)
 
-abbrev pub read_reply : Result (Addressed PortDevice) ReadRefusal → Reply (Addressed PortDevice)
-read_reply answer = reply_by read_refusal_number answer
+abbrev pub read_reply : Result (SourceAddressed PortDevice) ReadRefusal → Reply (Addressed PortDevice)
+read_reply answer = on_reply (addressed_by (λ device. device)) (reply_by read_refusal_number answer)
