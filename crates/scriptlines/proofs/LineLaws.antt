@@ -1,7 +1,8 @@
 -- What the lines of a window put out is the next part of what is to come, and how the source's loop gets through it.
 -- Assumes nothing.
 use Rattle.std.proofs.Common.{◌≡◌, ℕ, zero, suc, ◌+◌, ◌%◌, ◌^◌, ◌<◌, ◌≤◌, Bool, true, false, cond, not, ◌&&◌, eqb, List, [], ◌++◌, length, drop, sym, refl, ap, ◌∙◌, append-nil, add-zero, add-one, arith, length-append, length-drop, ne_eqb, eqb-true, leb-true}
-use mathlib.Core.Option.{Option}
+use mathlib.Core.Option.{Option as Detail}
+use Rattle.std.specs.Prelude.{Option, Some, None, is_some}
 use borrow.Author.Tests.{eqb-false, not-true}
 use lib.Seq.{drop-append-le}
 use Rattle.laws.specs.Reply.{Reply, refused, refused_at, refused_with, given, on_reply}
@@ -12,12 +13,21 @@ use Rattle.laws.proofs.Buffers.{written_nil, written_more, length-written}
 use Rattle.buffers.specs.Putting.{Puts}
 use Rattle.buffers.proofs.PutLaws.{whole_buffer, whole_place}
 use Rattle.registers.specs.Bursts.{RegisterWrite}
+use Rattle.streams.specs.Streams.{number_or_0}
+use Rattle.script.specs.declared.LineRefusal.{LineRefusal}
+use Rattle.script.specs.Refusals.{line_refusal_number}
 use Rattle.script.specs.Traces.{write_records}
 use Rattle.script.specs.Reading.{joined_to, parts_of, calls_from}
 use Rattle.script.specs.FirstLines.{holds_script_line, LineWithCalls, first_line_reply}
 use Rattle.script.proofs.TraceLaws.{writes_append, writes_length}
 use Rattle.script.proofs.FirstLineLaws.{line_then, calls_first, first_given, not_zero, holds_some, same_first}
 use Rattle.scriptlines.specs.TakenLines.{LinesDone, LinesState, lines_state_at, record_room, may_take_next, may_take_line, after_line, take_line, take_lines}
+
+-- no refusal has the number 0
+pub none_refused : (refusal : Option LineRefusal) → eqb (number_or_0 line_refusal_number refusal) 0 ≡ not (is_some refusal)
+none_refused None = refl
+none_refused (Some LineRefusal.TooLong) = refl
+none_refused (Some LineRefusal.OtherShape) = refl
 
 -- a window shows what its next line comes to or, at the file's end, any byte
 abbrev pub shows : Bool → List ℕ → Bool
@@ -62,7 +72,7 @@ records_joined here (given later) = ap given (writes_append here later)
 
 -- one line, by what it comes to
 pub by_line : (P : LinesState → Type 0) (state : LinesState)
-    → ((number : ℕ) (detail : Option ℕ) → first_line_reply state.left ≡ refused_with number detail → P (after_line state (refused_with number detail)))
+    → ((number : ℕ) (detail : Detail ℕ) → first_line_reply state.left ≡ refused_with number detail → P (after_line state (refused_with number detail)))
     → ((line : LineWithCalls) → first_line_reply state.left ≡ given line → P (after_line state (given line))) → P (take_line state)
 unfolding take_line
 by_line P state wrong right = go (first_line_reply state.left) refl
@@ -144,7 +154,7 @@ module _ (last : Bool) (state : LinesState) (may : may_take_line last state ≡ 
           (calls_first (left ++ rest) (omega (arith, some_byte, length-append left rest)) (state.done.lines + 1)
           ∙ ap (line_then (state.done.lines + 1) (left ++ rest)) (same_next last left rest ends tests.1 ∙ e)))
 
-      wrong : (number : ℕ) (detail : Option ℕ) → first_line_reply left ≡ refused_with number detail → PutsNext rest state (after_line state (refused_with number detail))
+      wrong : (number : ℕ) (detail : Detail ℕ) → first_line_reply left ≡ refused_with number detail → PutsNext rest state (after_line state (refused_with number detail))
       wrong number detail e =
           let some = not_zero left e in
           record {

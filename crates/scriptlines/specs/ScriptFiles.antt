@@ -1,7 +1,7 @@
 -- A script of any size, turn by turn. However its bytes are read, the work on it ends, and the records put out are
 -- those of the whole text, or the refusal is the text's.
 -- Assumes nothing.
-use Rattle.std.specs.Prelude.{◌≡◌, ℕ, ◌+◌, ◌*◌, ◌^◌, ◌<◌, ◌≤◌, Bool, true, cond, not, List, ◌++◌, length, take, ◌==◌}
+use Rattle.std.specs.Prelude.{◌≡◌, ℕ, ◌+◌, ◌*◌, ◌^◌, ◌<◌, ◌≤◌, Bool, true, cond, not, None, List, ◌++◌, length, take, ◌==◌}
 use Rattle.laws.specs.Reply.{Reply, refused_at, given, on_reply, and_then}
 use Rattle.laws.specs.Buffers.{written, if_room}
 use Rattle.registers.specs.declared.power_up.PowerUp.{PowerUp}
@@ -13,13 +13,12 @@ use Rattle.trace.specs.Records.{hub_data}
 use Rattle.script.specs.Grammar.{longest_script_line}
 use Rattle.script.specs.Traces.{write_records}
 use Rattle.script.specs.Reading.{script_calls, script_trace}
-use Rattle.scriptlines.specs.declared.LineRefusal.{LineRefusal}
 use Rattle.scriptlines.specs.declared.ScriptFile.{ScriptFile}
 use Rattle.scriptlines.specs.declared.ScriptTurn.{ScriptTurn}
 use Rattle.scriptlines.specs.TakenLines.{LinesDone, done_of, LinesState, lines_state_at, record_room, take_lines}
 
 abbrev pub new_script_file : ScriptFile
-new_script_file = record { run = record { lines = 0; refusal = LineRefusal.NoRefusal }; window = new_window }
+new_script_file = record { run = record { lines = 0; refusal = None }; window = new_window }
 
 -- the bytes of a window, whose lines are taken from its start
 abbrev pub window_taken : Bool → LinesDone → List ℕ → List ℕ → LinesState

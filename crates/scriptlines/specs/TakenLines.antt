@@ -3,26 +3,16 @@
 use Rattle.std.specs.Prelude.{◌≡◌, ℕ, zero, suc, ◌+◌, ◌%◌, ◌^◌, ◌≤◌, Bool, cond, not, ◌&&◌, List, length, drop, ◌==◌}
 use Rattle.laws.specs.Reply.{Reply, refused_with, given}
 use Rattle.laws.specs.Buffers.{written, has_room}
-use Rattle.hub.specs.Hubs.{is_hub_address}
+use Rattle.streams.specs.Streams.{number_or_0}
+use Rattle.script.specs.Refusals.{line_refusal_number}
 use Rattle.script.specs.Traces.{write_records}
 use Rattle.script.specs.FirstLines.{holds_script_line, LineWithCalls, first_line_reply}
-use Rattle.scriptlines.specs.declared.LineRefusal.{LineRefusal}
 use Rattle.scriptlines.specs.declared.ScriptRun.{ScriptRun}
 use Rattle.scriptlines.specs.declared.LinesTaken.{LinesTaken}
-
--- the paper's number for each case, 0 where nothing is refused
-abbrev pub line_refusal_number : LineRefusal → ℕ
-line_refusal_number LineRefusal.NoRefusal = 0
-line_refusal_number LineRefusal.TooLong = 15
-line_refusal_number LineRefusal.OtherShape = 14
 
 -- the number of the line after those that were taken (there are fewer than 2 ^ 64)
 abbrev pub refused_line : ScriptRun → ℕ
 refused_line run = (run.lines + 1) % 2 ^ 64
-
--- "2 for the hub's address, first"; 0 where a hub may have it
-abbrev pub address_refusal : ℕ → ℕ
-address_refusal address = cond (is_hub_address address) 0 2
 
 -- How far a script is read: how many lines were taken, and the number of the refusal of the next one, 0 for none.
 pub record LinesDone : Type 0 where
@@ -30,7 +20,7 @@ pub record LinesDone : Type 0 where
   pub refusal : ℕ
 
 abbrev pub done_of : ScriptRun → LinesDone
-done_of run = record { lines = run.lines; refusal = line_refusal_number run.refusal }
+done_of run = record { lines = run.lines; refusal = number_or_0 line_refusal_number run.refusal }
 
 -- A window is being read: how far the script is read, the bytes of the window that are left, and the lent buffer for
 -- records with the next free place.

@@ -3,29 +3,23 @@
 // likes.
 #![tactic(auto)]
 
-ghost use Rattle.std.specs.Prelude.{◌≡◌};
-ghost use Rattle.scriptlines.specs.TakenLines.{line_refusal_number, refused_line, address_refusal};
+ghost use Rattle.std.specs.Prelude.{◌≡◌, is_ok};
+ghost use Rattle.hub.specs.Hubs.{is_hub_address};
+ghost use Rattle.scriptlines.specs.TakenLines.{refused_line};
 ghost use Rattle.scriptlines.specs.TakenLines.{done_of, lines_state_at, TakesLines};
 ghost use Rattle.scriptlines.specs.ScriptFiles.{new_script_file, MakesScriptTurn};
 
-use std::num::wrapping_add_u64;
+use hub::AddressOutOfRange;
+use script::LineRefusal;
 use streams::Window;
 
 mod line;
 
-// Why a line is refused, if it is.
-#[derive(Clone, Copy)]
-pub enum LineRefusal {
-    NoRefusal,
-    TooLong,
-    OtherShape,
-}
-
-// How far a script is read: how many lines were taken, and whether the next one was refused.
+// How far a script is read: how many lines were taken, and why the next one was refused, if it was.
 #[derive(Clone, Copy)]
 pub struct ScriptRun {
     pub lines: u64,
-    pub refusal: LineRefusal,
+    pub refusal: Option<LineRefusal>,
 }
 
 // What came of a window: how far the script is read, how many bytes of the window were used, and the next free place
@@ -53,32 +47,21 @@ pub struct ScriptTurn {
     pub done: bool,
 }
 
-// The number of a refusal, 0 for none.
-pub fn refusal_number(refusal: LineRefusal) -> u8
-    ensures { result ≡ line_refusal_number refusal }
-{
-    match refusal {
-        LineRefusal::NoRefusal => 0,
-        LineRefusal::TooLong => 15,
-        LineRefusal::OtherShape => 14,
-    }
-}
-
 // The number of the line that is refused; lines are counted from 1.
 pub fn refused_line(run: ScriptRun) -> u64
     ensures { result ≡ refused_line run }
 {
-    wrapping_add_u64(run.lines, 1)
+    run.lines.wrapping_add(1)
 }
 
-// The number of an address's refusal, 0 for none.
-pub fn address_refusal(address: u8) -> u8
-    ensures { result ≡ address_refusal address }
+// Whether the address may be a hub's own.
+pub fn check_address(address: u8) -> Result<(), AddressOutOfRange>
+    ensures { is_ok result ≡ is_hub_address address }
 {
-    if hub::is_hub_address(address) {
-        return 0;
+    if !hub::is_hub_address(address) {
+        return Err(AddressOutOfRange);
     }
-    2
+    Ok(())
 }
 
 // The script before a byte of it is read.
@@ -89,7 +72,7 @@ pub fn new_file() -> ScriptFile
     ScriptFile {
         run: ScriptRun {
             lines: 0,
-            refusal: LineRefusal::NoRefusal,
+            refusal: None,
         },
         window,
     }
@@ -133,21 +116,17 @@ pub fn turn(file: ScriptFile, got: usize, buffer: &mut [u8], out: &mut [u8]) -> 
     ensures { MakesScriptTurn file got buffer.old out.old
         result buffer.new out.new }
 {
-    let run = file.run;
-    let before = file.window;
-    let window = streams::after_read(before, got, buffer.len());
-    let held = window.held;
+    let window = streams::after_read(file.window, got, buffer.len());
     let last = window.last;
-    let taken = take_lines(run, &buffer[..held], last, out, 0);
-    let after = taken.run;
-    let left = streams::slide(buffer, taken.used, held);
-    let refusal = after.refusal;
+    let taken = take_lines(file.run, &buffer[..window.held], last, out, 0);
+    let run = taken.run;
+    let held = streams::slide(buffer, taken.used, window.held);
     ScriptTurn {
         file: ScriptFile {
-            run: after,
-            window: Window { held: left, last },
+            run,
+            window: Window { held, last },
         },
         end: taken.next,
-        done: streams::nothing_left(refusal_number(refusal) != 0, last, left),
+        done: streams::nothing_left(run.refusal.is_some(), last, held),
     }
 }

@@ -3,19 +3,13 @@ ghost use Rattle.std.specs.Prelude.{◌≡◌, ◌+◌, ◌≤◌, length};
 ghost use Rattle.scriptlines.specs.TakenLines.{done_of, lines_state_at, record_room, may_take_next};
 ghost use Rattle.scriptlines.specs.PrivateContracts.{TakesLine};
 
-use crate::{LineRefusal, LinesTaken, ScriptRun, refusal_number};
+use crate::{LinesTaken, ScriptRun};
 use script::records::WRITE_RECORD;
-use script::text::NextScriptLine;
-use std::num::wrapping_add_u64;
 
 pub(crate) fn may_take_line(run: ScriptRun, left: &[u8], last: bool, size: usize, at: usize) -> bool
     ensures { result ≡ may_take_next (done_of run) left.now last size at }
 {
-    let refusal = run.refusal;
-    if refusal_number(refusal) != 0 {
-        return false;
-    }
-    if !buffers::has_room(size, at, WRITE_RECORD) {
+    if run.refusal.is_some() || !buffers::has_room(size, at, WRITE_RECORD) {
         return false;
     }
     if last {
@@ -31,29 +25,21 @@ pub(crate) fn take_line(run: ScriptRun, left: &[u8], out: &mut [u8], at: usize) 
         result out.new }
 {
     match script::text::first_script_line(left) {
-        NextScriptLine::TooLong => LinesTaken {
+        Err(refusal) => LinesTaken {
             run: ScriptRun {
                 lines: run.lines,
-                refusal: LineRefusal::TooLong,
+                refusal: Some(refusal),
             },
             used: 0,
             next: at,
         },
-        NextScriptLine::OtherShape => LinesTaken {
-            run: ScriptRun {
-                lines: run.lines,
-                refusal: LineRefusal::OtherShape,
-            },
-            used: 0,
-            next: at,
-        },
-        NextScriptLine::Taken { length, read } => {
-            let used = length + 1;
-            let next = script::records::put_line(out, at, read);
+        Ok(line) => {
+            let used = line.length + 1;
+            let next = script::records::put_line(out, at, line.call);
             LinesTaken {
                 run: ScriptRun {
-                    lines: wrapping_add_u64(run.lines, 1),
-                    refusal: LineRefusal::NoRefusal,
+                    lines: run.lines.wrapping_add(1),
+                    refusal: None,
                 },
                 used,
                 next,

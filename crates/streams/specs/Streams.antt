@@ -1,7 +1,7 @@
 -- A file read window by window, and work on it: however the bytes are read, the work on the windows comes to what it
 -- comes to on the whole file, and it ends. No rule of the papers.
 -- Assumes nothing.
-use Rattle.std.specs.Prelude.{◌≡◌, Bool, true, false, cond, not, ◌&&◌, List, [], ◌∷◌, ◌++◌, ℕ, suc, ◌+◌, ◌-◌, ◌*◌, ◌≤◌, ◌<◌, min, eqb, ltb, length, take, drop}
+use Rattle.std.specs.Prelude.{◌≡◌, Bool, true, false, cond, not, ◌&&◌, Option, Some, None, List, [], ◌∷◌, ◌++◌, ℕ, suc, ◌+◌, ◌-◌, ◌*◌, ◌≤◌, ◌<◌, min, eqb, ltb, length, take, drop}
 use Rattle.streams.specs.declared.Window.{Window}
 
 abbrev pub new_window : Window
@@ -33,6 +33,11 @@ pub record WindowRead (window : Window) (got : ℕ) (buffer : List ℕ) : Type 0
 
 abbrev pub ReadsAfterHeld : Type 0
 ReadsAfterHeld = (window : Window) (got : ℕ) (buffer : List ℕ) → WindowRead window got buffer
+
+-- the number of the refusal that the work came to, 0 for none
+abbrev pub number_or_0 : {E : Type 0} → (E → ℕ) → Option E → ℕ
+number_or_0 number None = 0
+number_or_0 number (Some refusal) = number refusal
 
 -- nothing is left to do: the work is over, or the file has ended and no byte of it is left
 abbrev pub nothing_left : Bool → Bool → ℕ → Bool
