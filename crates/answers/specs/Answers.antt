@@ -1,12 +1,13 @@
 -- What the records of a trace are answered: document 01, "The trace and the player".
 -- Assumes nothing.
-use Rattle.std.specs.Prelude.{List, [], ◌∷◌, ℕ}
-use Rattle.laws.specs.Reply.{Reply, refused, given, on_reply}
-use Rattle.hub.specs.declared.CreationAnswer.{CreationAnswer}
-use Rattle.hub.specs.declared.CreationAnswer.TheVariants.{AddressOutOfRange, Created}
+use Rattle.std.specs.Prelude.{List, [], ◌∷◌, ℕ, Result}
+use Rattle.laws.specs.Reply.{Reply, refused, given, on_reply, reply_by}
+use Rattle.hub.specs.declared.AddressOutOfRange.{AddressOutOfRange}
+use Rattle.hub.specs.Refusals.{address_out_of_range_number}
 use Rattle.translation.specs.declared.PortDevice.{PortDevice}
 use Rattle.translation.specs.Translation.{Addressed, write_reply, read_reply}
 use Rattle.frames.specs.Events.{Outcome, on_outcome, event_answer_reply}
+use Rattle.answers.specs.declared.NoRecord.{NoRecord as NoRecordRefusal}
 use Rattle.answers.specs.declared.Header.{Header}
 use Rattle.answers.specs.declared.EventKind.{EventKind}
 use Rattle.answers.specs.declared.RecordAnswer.{RecordAnswer}
@@ -24,10 +25,13 @@ pub data Answer : Type 0 where
   read_answered : (address : ℕ) (who : Addressed PortDevice) → Answer
   event_done : (event : EventKind) (port : ℕ) (outcome : Outcome (List ℕ)) → Answer
 
+-- refusal 13, of bytes that are no record of a trace
+abbrev pub no_record_number : NoRecordRefusal → ℕ
+no_record_number refusal = 13
+
 -- the paper's number and values for each case of the source's answer
-abbrev pub hub_reply : ℕ → CreationAnswer → Reply Answer
-hub_reply address AddressOutOfRange = refused 2
-hub_reply address Created = given (hub_made address)
+abbrev pub hub_reply : ℕ → Result Unit AddressOutOfRange → Reply Answer
+hub_reply address answer = on_reply (λ made. hub_made address) (reply_by address_out_of_range_number answer)
 
 abbrev pub header_list : Header → List ℕ
 header_list header =

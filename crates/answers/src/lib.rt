@@ -3,13 +3,24 @@
 
 ghost use Rattle.std.specs.Prelude.{◌≡◌};
 ghost use Rattle.laws.specs.Reply.{is_refused};
-ghost use Rattle.answers.specs.Answers.{answer_reply};
+ghost use Rattle.answers.specs.Answers.{no_record_number, answer_reply};
 
-use frames::EventAnswer;
-use hub::CreationAnswer;
-use translation::{ReadAnswer, WriteAnswer};
+use frames::{EventRefusal, Sent};
+use hub::AddressOutOfRange;
+use refusals::Refusal;
+use translation::{Addressed, Devices, PortDevice, ReadRefusal, WriteRefusal};
 
-mod refused;
+// The bytes are no whole record of a trace.
+#[derive(Clone, Copy)]
+pub struct NoRecord;
+
+impl Refusal for NoRecord {
+    ghost number = { no_record_number };
+
+    fn number(self) -> u8 {
+        13
+    }
+}
 
 // The four bytes of a packet header.
 #[derive(Clone, Copy)]
@@ -34,7 +45,7 @@ pub enum RecordAnswer {
     NoRecord,
     Hub {
         address: u8,
-        answer: CreationAnswer,
+        answer: Result<(), AddressOutOfRange>,
     },
     Write {
         offset: u8,
@@ -46,16 +57,16 @@ pub enum RecordAnswer {
     },
     WriteQuestion {
         address: u8,
-        answer: WriteAnswer,
+        answer: Result<Addressed<Devices>, WriteRefusal>,
     },
     ReadQuestion {
         address: u8,
-        answer: ReadAnswer,
+        answer: Result<Addressed<PortDevice>, ReadRefusal>,
     },
     FrameEvent {
         event: EventKind,
         port: u8,
-        answer: EventAnswer,
+        answer: Result<Option<Sent>, EventRefusal>,
         header: Header,
     },
 }
@@ -66,22 +77,10 @@ pub fn is_refused(reply: RecordAnswer) -> bool
 {
     match reply {
         RecordAnswer::NoRecord => true,
-        RecordAnswer::Hub { address, answer } => refused::hub_refused(address, answer),
-        RecordAnswer::Write {
-            offset: _,
-            count: _,
-        } => false,
-        RecordAnswer::Read {
-            offset: _,
-            value: _,
-        } => false,
-        RecordAnswer::WriteQuestion { address: _, answer } => refused::write_refused(answer),
-        RecordAnswer::ReadQuestion { address: _, answer } => refused::read_refused(answer),
-        RecordAnswer::FrameEvent {
-            event: _,
-            port: _,
-            answer,
-            header: _,
-        } => refused::event_refused(answer),
+        RecordAnswer::Hub { answer, .. } => answer.is_err(),
+        RecordAnswer::Write { .. } | RecordAnswer::Read { .. } => false,
+        RecordAnswer::WriteQuestion { answer, .. } => answer.is_err(),
+        RecordAnswer::ReadQuestion { answer, .. } => answer.is_err(),
+        RecordAnswer::FrameEvent { answer, .. } => answer.is_err(),
     }
 }
