@@ -3,26 +3,18 @@
 use Rattle.std.proofs.Common.{◌≡◌, ℕ, ◌+◌, ◌≤◌, Bool, true, false, cond, List, length, sym, refl, ap, ◌∙◌, arith, le-leb}
 use Rattle.laws.specs.Reply.{Reply, refused, refused_with, given, on_reply}
 use Rattle.laws.specs.Buffers.{has_room, if_room, after_reply, count_of, Writes}
-use Rattle.laws.proofs.Absurd.{zero_not_one}
 use Rattle.laws.proofs.Buffers.{writing}
-use Rattle.laws.proofs.Replies.{then_given, room_by, room_given, count_given}
+use Rattle.laws.proofs.Replies.{refused_given, then_given, room_by, room_given, count_given}
 use Rattle.buffers.specs.Putting.{Puts}
 use Rattle.buffers.proofs.PutLaws.{whole_buffer}
 use Rattle.registers.specs.Bursts.{RegisterWrite}
 use Rattle.trace.specs.Records.{record_of}
-use Rattle.listing.specs.declared.CountAnswer.{CountAnswer}
-use Rattle.listing.specs.declared.ListingAnswer.{ListingAnswer}
+use Rattle.std.specs.Prelude.{Result, Ok, Err}
+use Rattle.listing.specs.declared.ListingRefusal.{ListingRefusal}
 use Rattle.listing.specs.Listing.{calls_text, record_calls, trace_calls, text_if_room, trace_text, record_text, LongestText, listing_reply}
-use Rattle.listing.specs.PrivateContracts.{count_reply, bytes_if_room}
+use Rattle.listing.specs.PrivateContracts.{bytes_if_room}
 use Rattle.listing.proofs.TextLaws.{length-text}
 use Rattle.listing.proofs.RecordLaws.{text_most}
-
--- a count that is none is a refusal
-pub count_refused : (counted : CountAnswer) → ((n : ℕ) → counted ≡ CountAnswer.Calls n → ⊥) → (number : ℕ) × (count_reply counted ≡ refused number)
-count_refused CountAnswer.NoRecord none = (13, refl)
-count_refused CountAnswer.AddressOutOfRange none = (2, refl)
-count_refused CountAnswer.NoTextForm none = (16, refl)
-count_refused (CountAnswer.Calls n) none = absurd (none n refl)
 
 -- the answer by the count is how many bytes the text has, or why there is none
 pub by_count : (size place : ℕ) (calls : Reply (List RegisterWrite)) → bytes_if_room size place (on_reply length calls) ≡ count_of (text_if_room size place calls)
@@ -53,14 +45,6 @@ longest_text_lem first bytes size place small free = go (record_calls (record_of
         let text = calls_text calls in
         room_by size place text (length text) refl (le-leb (place + length text) size (omega (arith, text_most first bytes e small)))
 
--- an answer that is no text gives none
-pub not-given : (answer : ListingAnswer) {count : ℕ} → ((n : ℕ) → answer ≡ ListingAnswer.Text n → ⊥) → listing_reply answer ≡ given count → ⊥
-not-given ListingAnswer.NoRecord none e = zero_not_one (cc)
-not-given ListingAnswer.AddressOutOfRange none e = zero_not_one (cc)
-not-given ListingAnswer.NoTextForm none e = zero_not_one (cc)
-not-given ListingAnswer.NoRoom none e = zero_not_one (cc)
-not-given (ListingAnswer.Text n) none e = none n refl
-
 -- what a text that is given has: calls, and room
 pub text_given : (size place : ℕ) (calls : Reply (List RegisterWrite)) {n : ℕ} → given n ≡ count_of (text_if_room size place calls)
     → (taken : List RegisterWrite) × (calls ≡ given taken) × (text_if_room size place calls ≡ given (calls_text taken))
@@ -73,7 +57,7 @@ text_given size place calls e =
 
 -- an answer by the count of some calls
 module _ (before : List ℕ) (place : ℕ) (calls : Reply (List RegisterWrite)) {counted : Reply ℕ} (counts : counted ≡ on_reply length calls)
-    (answer : ListingAnswer) (told : listing_reply answer ≡ bytes_if_room (length before) place counted) where
+    (answer : Result ℕ ListingRefusal) (told : listing_reply answer ≡ bytes_if_room (length before) place counted) where
   abbrev reply : Reply (List ℕ)
   reply = text_if_room (length before) place calls
 
@@ -81,15 +65,15 @@ module _ (before : List ℕ) (place : ℕ) (calls : Reply (List RegisterWrite)) 
   answered = told ∙ ap (bytes_if_room (length before) place) counts ∙ by_count (length before) place calls
 
   -- no text: the buffer stays
-  pub no_text_lem : ((n : ℕ) → answer ≡ ListingAnswer.Text n → ⊥) → Writes before place reply (listing_reply answer) before
-  no_text_lem none = record { answer = answered; buffer = go reply answer none answered }
+  pub no_text_lem : {refusal : ListingRefusal} → answer ≡ Err refusal → Writes before place reply (listing_reply answer) before
+  no_text_lem {refusal} e = record { answer = answered; buffer = go reply (sym (ap listing_reply e) ∙ answered) }
     where
-      go : (r : Reply (List ℕ)) (a : ListingAnswer) → ((n : ℕ) → a ≡ ListingAnswer.Text n → ⊥) → listing_reply a ≡ count_of r → before ≡ after_reply before place r
-      go (refused_with number detail) a n k = refl
-      go (given bytes) a n k = absurd (not-given a n k)
+      go : (r : Reply (List ℕ)) → listing_reply (Err refusal) ≡ count_of r → before ≡ after_reply before place r
+      go (refused_with number detail) k = refl
+      go (given bytes) k = refused_given refl k
 
   -- a text: it was put
-  pub text_put : {n : ℕ} {after : List ℕ} {next : ℕ} → answer ≡ ListingAnswer.Text n
+  pub text_put : {n : ℕ} {after : List ℕ} {next : ℕ} → answer ≡ Ok n
       → ((taken : List RegisterWrite) → calls ≡ given taken → Puts before place (calls_text taken) after next)
       → Writes before place reply (listing_reply answer) after
   text_put {n} e puts =

@@ -10,7 +10,8 @@ use Rattle.hub.specs.Hubs.{is_hub_address}
 use Rattle.trace.specs.Records.{TraceRecord, hub_record, write_record, read_record, write_question, read_question}
 use Rattle.trace.specs.Records.{start_record, end_record, pixel_line_record, record_of, record_in}
 use Rattle.trace.proofs.RecordLaws.{same_record}
-use Rattle.listing.specs.TraceHubs.{HubStart, hub_of_asked, trace_hub, WindowHasHub}
+use Rattle.listing.specs.declared.HubAsked.{HubAsked}
+use Rattle.listing.specs.TraceHubs.{hub_of_asked, trace_hub, WindowHasHub}
 
 pub no_hub : (bytes : List ℕ) (asked : Record) → ((address : ℕ) (start : PowerUp) → asked ≡ Record.Hub address start → ⊥)
     → hub_of_asked (record_in bytes asked) ≡ refused 13
@@ -30,12 +31,12 @@ window_has_hub window rest h =
     ap (λ (found : Reply TraceRecord). and_then found hub_of_asked) (same_record true window rest h).0
 
 -- what asks for a hub is the hub record
-asked_hub : (asked : TraceRecord) {hub : HubStart} → hub_of_asked asked ≡ given hub
+asked_hub : (asked : TraceRecord) {hub : HubAsked} → hub_of_asked asked ≡ given hub
     → asked ≡ hub_record hub.address hub.start
 unfolding hub_of_asked
 asked_hub (hub_record address start) e =
     let same = given_same refl (was_true 2 (is_hub_address address) e).1 in
-    ap (λ (hub : HubStart). hub_record hub.address hub.start) same
+    ap (λ (hub : HubAsked). hub_record hub.address hub.start) same
 asked_hub (write_record offset values) e = zero_not_one (cc)
 asked_hub (read_record offset) e = zero_not_one (cc)
 asked_hub (write_question address) e = zero_not_one (cc)
@@ -44,7 +45,7 @@ asked_hub (start_record port bits) e = zero_not_one (cc)
 asked_hub (end_record port) e = zero_not_one (cc)
 asked_hub (pixel_line_record port width pixel) e = zero_not_one (cc)
 
-pub hub_first : (trace : List ℕ) {hub : HubStart} → trace_hub trace ≡ given hub
+pub hub_first : (trace : List ℕ) {hub : HubAsked} → trace_hub trace ≡ given hub
     → record_of true trace ≡ given (hub_record hub.address hub.start)
 unfolding trace_hub
 hub_first trace e =

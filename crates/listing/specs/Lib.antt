@@ -1,3 +1,4 @@
+pub mod Refusals
 pub mod Listing
 pub mod TraceHubs
 pub mod PrivateContracts

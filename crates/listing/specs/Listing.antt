@@ -1,7 +1,7 @@
 -- The text of a trace of hub and write records: L1.
 -- Assumes nothing.
-use Rattle.std.specs.Prelude.{◌≡◌, ℕ, zero, suc, ◌+◌, ◌<◌, ◌≤◌, Bool, true, false, cond, List, [], ◌∷◌, ◌++◌, length, drop, ◌==◌, slice_index}
-use Rattle.laws.specs.Reply.{Reply, refused, given, on_reply, and_then}
+use Rattle.std.specs.Prelude.{◌≡◌, ℕ, zero, suc, ◌+◌, ◌<◌, ◌≤◌, Bool, true, false, cond, Result, List, [], ◌∷◌, ◌++◌, length, drop, ◌==◌, slice_index}
+use Rattle.laws.specs.Reply.{Reply, refused, given, on_reply, and_then, reply_by}
 use Rattle.laws.specs.Buffers.{if_room}
 use Rattle.laws.specs.Texts.{ascii}
 use Rattle.buffers.specs.Numerals.{lowercase_byte}
@@ -10,7 +10,8 @@ use Rattle.hub.specs.Hubs.{is_hub_address}
 use Rattle.trace.specs.Framing.{record_length}
 use Rattle.trace.specs.Records.{TraceRecord, hub_record, write_record, read_record, write_question, read_question}
 use Rattle.trace.specs.Records.{start_record, end_record, pixel_line_record, record_of}
-use Rattle.listing.specs.declared.ListingAnswer.{ListingAnswer}
+use Rattle.listing.specs.declared.ListingRefusal.{ListingRefusal}
+use Rattle.listing.specs.Refusals.{listing_refusal_number}
 
 -- WriteI2C(0x4c,0x0f)
 unfoldable pub call_text : RegisterWrite → List ℕ
@@ -95,10 +96,6 @@ LongestText =
     (first : Bool) (bytes : List ℕ) (size place : ℕ) → slice_index bytes 3 < 256 → place + longest_text ≤ size
     → record_text first bytes size place ≡ on_reply calls_text (record_calls (record_of first bytes))
 
--- the paper's number and value for each case of the answer
-abbrev pub listing_reply : ListingAnswer → Reply ℕ
-listing_reply ListingAnswer.NoRecord = refused 13
-listing_reply ListingAnswer.AddressOutOfRange = refused 2
-listing_reply ListingAnswer.NoTextForm = refused 16
-listing_reply ListingAnswer.NoRoom = refused 8
-listing_reply (ListingAnswer.Text bytes) = given bytes
+-- the paper's number for a refusal, and how many bytes were put
+abbrev pub listing_reply : Result ℕ ListingRefusal → Reply ℕ
+listing_reply answer = reply_by listing_refusal_number answer

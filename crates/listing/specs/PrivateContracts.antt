@@ -1,24 +1,22 @@
 -- How the contracts of the private functions are stated: no rule of the papers.
 -- Assumes nothing.
-use Rattle.std.specs.Prelude.{◌≡◌, ℕ, ◌*◌, Bool, cond, List}
-use Rattle.laws.specs.Reply.{Reply, refused, given, and_then}
+use Rattle.std.specs.Prelude.{◌≡◌, ℕ, ◌*◌, Bool, cond, Result, List}
+use Rattle.laws.specs.Reply.{Reply, refused, given, and_then, reply_by}
 use Rattle.laws.specs.Buffers.{has_room}
 use Rattle.buffers.specs.Putting.{Puts}
 use Rattle.registers.specs.Bursts.{RegisterWrite}
 use Rattle.trace.specs.Records.{record_of}
-use Rattle.listing.specs.declared.CountAnswer.{CountAnswer}
+use Rattle.listing.specs.declared.TextRefusal.{TextRefusal}
+use Rattle.listing.specs.Refusals.{text_refusal_number}
 use Rattle.listing.specs.Listing.{calls_text, record_calls, trace_calls}
 
 -- the bytes of a call's line, with its line feed
 abbrev pub call_length : ℕ
 call_length = 20
 
--- the paper's number and value for each case of the count
-abbrev pub count_reply : CountAnswer → Reply ℕ
-count_reply CountAnswer.NoRecord = refused 13
-count_reply CountAnswer.AddressOutOfRange = refused 2
-count_reply CountAnswer.NoTextForm = refused 16
-count_reply (CountAnswer.Calls calls) = given calls
+-- the paper's number for a refusal, and how many calls there are
+abbrev pub count_reply : Result ℕ TextRefusal → Reply ℕ
+count_reply counted = reply_by text_refusal_number counted
 
 -- how many bytes the text of so many calls has, if they have room: `text_if_room` by the count alone
 abbrev pub bytes_if_room : ℕ → ℕ → Reply ℕ → Reply ℕ

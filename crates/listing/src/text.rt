@@ -6,8 +6,7 @@ ghost use Rattle.listing.specs.Listing.{call_text, calls_text};
 ghost use Rattle.listing.specs.PrivateContracts.{PutsRecord, PutsText};
 
 use buffers::text;
-use std::num::wrapping_add_u8;
-use trace::{FoundRecord, Record};
+use trace::Record;
 
 // The bytes of a call's line, with its line feed.
 pub(crate) const CALL_LENGTH: usize = 20;
@@ -28,8 +27,7 @@ fn put_call(out: &mut [u8], at: usize, offset: u8, value: u8) -> usize
     ensures { Puts out.old at
         (call_text (record { offset = offset; value = value })) out.new result }
 {
-    let line = call_line(offset, value);
-    buffers::put_bytes(out, at, &line)
+    buffers::put_bytes(out, at, &call_line(offset, value))
 }
 
 // One line for each value; the offset goes round after 0xFF.
@@ -39,11 +37,9 @@ fn put_burst(out: &mut [u8], at: usize, offset: u8, values: &[u8]) -> usize
 {
     let mut place = at;
     let mut next = offset;
-    let mut i = 0;
-    while i < values.len() {
-        place = put_call(out, place, next, values[i]);
-        next = wrapping_add_u8(next, 1);
-        i += 1;
+    for value in values {
+        place = put_call(out, place, next, *value);
+        next = next.wrapping_add(1);
     }
     place
 }
@@ -52,7 +48,7 @@ fn put_burst(out: &mut [u8], at: usize, offset: u8, values: &[u8]) -> usize
 pub(crate) fn put_record(bytes: &[u8], first: bool, out: &mut [u8], at: usize) -> usize
     ensures { PutsRecord first bytes.now out.old at out.new result }
 {
-    let FoundRecord::Found(asked) = trace::record_at(bytes, first) else {
+    let Some(asked) = trace::record_at(bytes, first) else {
         return at;
     };
     let Record::Write { offset } = asked else {
@@ -61,7 +57,8 @@ pub(crate) fn put_record(bytes: &[u8], first: bool, out: &mut [u8], at: usize) -
     put_burst(out, at, offset, trace::values(bytes))
 }
 
-// Puts the text of a trace that has one at the start of the buffer, record by record.
+// Puts the text of a trace that has one at the start of the buffer. (The step of the loop is a record, whose length its
+// head tells.)
 pub(crate) fn put_records(trace: &[u8], out: &mut [u8]) -> usize
     ensures { PutsText trace.now out.old out.new result }
 {

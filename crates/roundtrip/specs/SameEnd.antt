@@ -5,7 +5,8 @@ use Rattle.laws.specs.Reply.{given}
 use Rattle.laws.specs.Elements.{AreBytes}
 use Rattle.registers.specs.declared.power_up.PowerUp.{PowerUp}
 use Rattle.script.specs.Reading.{script_trace}
-use Rattle.listing.specs.TraceHubs.{HubStart, trace_hub}
+use Rattle.listing.specs.declared.HubAsked.{HubAsked}
+use Rattle.listing.specs.TraceHubs.{trace_hub}
 use Rattle.listing.specs.Listing.{trace_text}
 use Rattle.playback.specs.Playing.{end_hub}
 
@@ -20,6 +21,6 @@ pub record PlaysAlike (address : ℕ) (start : PowerUp) (trace text : List ℕ) 
 -- trace the trace's own" start.
 abbrev pub SameEndState : Type 0
 SameEndState =
-    (trace text : List ℕ) (hub : HubStart) (size : ℕ) → AreBytes trace
+    (trace text : List ℕ) (hub : HubAsked) (size : ℕ) → AreBytes trace
     → trace_hub trace ≡ given hub → trace_text trace size ≡ given text
     → PlaysAlike hub.address hub.start trace text

@@ -1,7 +1,7 @@
 -- The writes of a script of any size, turn by turn. However its bytes are read, the work on it ends, and the writes
 -- that it gave are those of the whole text, with the numbers of their lines, or the refusal is the text's.
 -- Assumes nothing.
-use Rattle.std.specs.Prelude.{◌≡◌, Bool, true, cond, List, [], ◌∷◌, ℕ, ◌+◌, ◌*◌, ◌^◌, ◌≤◌, ◌<◌, eqb, length, get_or, take}
+use Rattle.std.specs.Prelude.{◌≡◌, Bool, true, cond, Option, Some, None, List, [], ◌∷◌, ℕ, ◌+◌, ◌*◌, ◌^◌, ◌≤◌, ◌<◌, eqb, length, get_or, take}
 use Rattle.laws.specs.Reply.{on_reply}
 use Rattle.laws.specs.Buffers.{written}
 use Rattle.streams.specs.Streams.{after_read, nothing_left, Work, Way, way_from, TurnInput, all_turns}
@@ -11,7 +11,6 @@ use Rattle.script.specs.Grammar.{longest_script_line}
 use Rattle.scriptlines.specs.declared.ScriptFile.{ScriptFile}
 use Rattle.scriptlines.specs.TakenLines.{LinesDone, done_of, LinesState}
 use Rattle.scriptlines.specs.ScriptFiles.{window_taken, line_refused, no_lines_done, records_reply}
-use Rattle.scriptwrites.specs.declared.NextWrite.{NextWrite}
 use Rattle.scriptwrites.specs.declared.WriteTurn.{WriteTurn}
 use Rattle.scriptwrites.specs.NumberedCalls.{numbered_calls}
 
@@ -24,12 +23,12 @@ abbrev pub taken_to_call : Bool → LinesDone → List ℕ → LinesState
 taken_to_call last done bytes = window_taken last done bytes one_record
 
 -- The write in the record that was put, if there is one. A write record is 9A 64 01 02, the offset and the value.
-abbrev pub write_in : ℕ → ℕ → List ℕ → NextWrite
+abbrev pub write_in : ℕ → ℕ → List ℕ → Option NumberedWrite
 write_in end number bytes =
-    cond (eqb end 0) NextWrite.NoWrite (NextWrite.Write number (get_or bytes 4 0) (get_or bytes 5 0))
+    cond (eqb end 0) None (Some (record { number = number; offset = get_or bytes 4 0; value = get_or bytes 5 0 }))
 
 -- the call's line is the last that was taken, so the count of lines is its number
-abbrev pub write_taken : LinesState → NextWrite
+abbrev pub write_taken : LinesState → Option NumberedWrite
 write_taken after = write_in after.at after.done.lines after.out
 
 -- The lines were taken; what is left of the bytes stands at the start of the buffer, and the rest of the buffer stays.
@@ -50,10 +49,9 @@ MakesWriteTurn file got buffer result buffer_after =
     WriteTurnMade window.last after buffer result buffer_after
 
 -- the write that a turn gave, as a list
-abbrev pub writes_given : NextWrite → List NumberedWrite
-writes_given NextWrite.NoWrite = []
-writes_given (NextWrite.Write number offset value) =
-    record { number = number; offset = offset; value = value } ∷ []
+abbrev pub writes_given : Option NumberedWrite → List NumberedWrite
+writes_given None = []
+writes_given (Some write) = write ∷ []
 
 -- What work on a file puts out is numbers: three for each write.
 unfoldable pub write_numbers : List NumberedWrite → List ℕ

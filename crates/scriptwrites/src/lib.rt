@@ -6,37 +6,31 @@
 ghost use Rattle.std.specs.Prelude.{◌≡◌};
 ghost use Rattle.scriptwrites.specs.ScriptWrites.{write_in, MakesWriteTurn};
 
+use origins::NumberedWrite;
 use script::records::WRITE_RECORD;
 use scriptlines::ScriptFile;
 
-// What a turn came to: no call was found, or one, with the number of its line (from 1), its offset and its value.
-#[derive(Clone, Copy)]
-pub enum NextWrite {
-    NoWrite,
-    Write { number: u64, offset: u8, value: u8 },
-}
-
-// What a turn gives: the script after it, the write, and whether nothing is left to take (the last turn may give a
-// write too).
+// What a turn gives: the script after it, the write with the number of its line (from 1), if a call was found, and
+// whether nothing is left to take (the last turn may give a write too).
 #[derive(Clone, Copy)]
 pub struct WriteTurn {
     pub file: ScriptFile,
-    pub write: NextWrite,
+    pub write: Option<NumberedWrite>,
     pub done: bool,
 }
 
 // The write in a record that ends at a place, none where the place is the start.
-fn write_in(end: usize, number: u64, bytes: &[u8; WRITE_RECORD]) -> NextWrite
+fn write_in(end: usize, number: u64, bytes: &[u8; WRITE_RECORD]) -> Option<NumberedWrite>
     ensures { result ≡ write_in end number bytes.now }
 {
     if end == 0 {
-        return NextWrite::NoWrite;
+        return None;
     }
-    NextWrite::Write {
+    Some(NumberedWrite {
         number,
         offset: bytes[4],
         value: bytes[5],
-    }
+    })
 }
 
 // One turn: `got` bytes of the file were read into the buffer after those that it held. Lines are taken up to and with

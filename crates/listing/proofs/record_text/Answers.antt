@@ -1,19 +1,24 @@
 -- `listing::record_text` meets its contract: an answer by the count, and the text that it speaks of is put.
+use Rattle.std.proofs.Common.{refl}
+use Rattle.std.specs.Prelude.{Ok, Err}
+use Rattle.std.proofs.lemmas.Result.{err_from_is_err_and}
 use Rattle.trace.specs.Records.{record_of}
 use Rattle.listing.specs.Listing.{record_calls, record_text}
 use Rattle.listing.proofs.AnswerLaws.{no_text_lem, text_put}
 use Rattle.listing.proofs.record_text.Goals as goal
 
-pub returns-in_default : goal.returns-in_default
+pub returns-in_err-length : goal.returns-in_err-length
 unfolding record_text
-returns-in_default c =
+returns-in_err-length c =
     let x = c.args in
-    no_text_lem x.out.now x.place (record_calls (record_of x.first x.bytes.now)) c.record_calls.ensures
-    c.answer_of-answer.result c.answer_of-answer.ensures c.in_default.not-Text
+    let told = err_from_is_err_and c.from_residual.result c.from_residual.ensures.1 in
+    rw (told.1, told.2)
+    (no_text_lem x.out.now x.place (record_calls (record_of x.first x.bytes.now)) c.record_calls.ensures
+    (Err c.in_err-length.field-0.0) c.in_err-length.ensures refl)
 
 pub returns : goal.returns
 unfolding record_text
 returns c =
     let x = c.args in
     text_put x.out.now x.place (record_calls (record_of x.first x.bytes.now)) c.record_calls.ensures
-    c.answer_of-answer.result c.answer_of-answer.ensures c.in-Text.is c.put_record.ensures
+    (Ok c.in_ok-length.length) c.in_ok-length.ensures refl c.put_record.ensures

@@ -5,25 +5,22 @@ use Rattle.listing.specs.Listing.{call_text}
 use Rattle.listing.proofs.TextLaws.{burst_line, burst_end}
 use Rattle.listing.proofs.text.put_burst.Goals as goal
 
-pub loop-i-init : goal.loop-i-init
-loop-i-init c = let x = c.args in (omega arith, ([], put_nothing x.out.now x.at, refl))
+pub loop-value-init : goal.loop-value-init
+loop-value-init c = let x = c.args in ([], put_nothing x.out.now x.at, refl)
 
-pub loop-i-preserved : goal.loop-i-preserved
-loop-i-preserved c =
-    let l = c.loop-i in
+pub loop-value-preserved : goal.loop-value-preserved
+loop-value-preserved c =
+    let l = c.loop-value in
     let values = c.args.values.now in
-    let done = l.invariant.1 in
-    let line = call_text (record { offset = l.next; value = get_or values l.i 0 }) in (
-      omega arith,
-      (
-        done.0 ++ line,
-        put_then_lem done.1 c.put_call-place.ensures,
-        done.2 ∙ rw (burst_line l.next values l.i (omega arith), c.wrapping_add_u8-next.ensures.value, append_assoc),
-      ),
+    let done = l.invariant in
+    let line = call_text (record { offset = l.next; value = get_or values l.value-index 0 }) in (
+      done.0 ++ line,
+      put_then_lem done.1 c.put_call-place.ensures,
+      done.2 ∙ rw (burst_line l.next values l.value-index (omega arith), append_assoc),
     )
 
 pub returns : goal.returns
 returns c =
-    let l = c.loop-i in
+    let l = c.loop-value in
     let values = c.args.values.now in
-    rw (l.invariant.1.2, burst_end l.next values l.i (omega arith), append-nil) l.invariant.1.1
+    rw (l.invariant.2, burst_end l.next values l.value-index (omega arith), append-nil) l.invariant.1
