@@ -8,6 +8,7 @@ use csi2::short::FrameSync;
 use hub::{Hub, LastFrame, PortFrames};
 
 // A frame end that closes the port's frame, or is refused.
+#[tactic(auto, unfolding(crate::specs::Events::event_reply, crate::specs::Events::if_open))]
 fn close(hub: Hub, port: u8, buf: &mut [u8], place: usize) -> Result<Taken, EventRefusal>
     ensures { EventAnswered hub (end_event port) buf.old place
         (taken_reply result) (hub_with_taken hub result) buf.new }

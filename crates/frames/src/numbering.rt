@@ -24,6 +24,7 @@ fn number_of(last: LastFrame) -> u16
 }
 
 // The number that follows `old`.
+#[tactic(auto, unfolding(crate::specs::Events::next_frame_number))]
 fn next_frame_number(largest: u16, old: u16) -> u16
     ensures { result ≡ next_frame_number largest old }
 {

@@ -16,6 +16,7 @@ fn is_open(last: LastFrame) -> bool
 }
 
 // A frame start that opens the port's frame, or is refused.
+#[tactic(auto, unfolding(crate::specs::Events::event_reply, crate::specs::Events::if_open))]
 fn open(hub: Hub, port: u8, bits: u8, buf: &mut [u8], place: usize) -> Result<Taken, EventRefusal>
     ensures { EventAnswered hub (start_event port bits) buf.old place
         (taken_reply result) (hub_with_taken hub result) buf.new }
