@@ -1,16 +1,15 @@
 -- The cases that document 01 marks *, as one statement ("Cases to hold against the rules").
 -- Assumes nothing.
-use Rattle.std.specs.Prelude.{◌≡◌, [], ◌∷◌, ℕ}
+use Rattle.std.specs.Prelude.{◌≡◌, [], ◌∷◌, ℕ, Option, Some}
 use Rattle.laws.specs.Reply.{refused, given}
 use Rattle.formats.specs.declared.Format.TheVariants.{Raw10, Raw12}
 use Rattle.registers.specs.declared.power_up.PowerUp.TheVariants.{Reset}
 use Rattle.hub.specs.declared.Hub.{Hub}
 use Rattle.hub.specs.Hubs.{hub_at, hub_burst, hub_read}
-use Rattle.ecc.specs.declared.Corrected.{Corrected}
-use Rattle.ecc.specs.declared.Corrected.TheVariants.{HeaderBit}
 use Rattle.ecc.specs.CheckBytes.{check_byte}
 use Rattle.packing.specs.Raw.{payload_of}
-use Rattle.reader.specs.Reader.{Packet, read_packet}
+use Rattle.reader.specs.declared.Packet.{Packet}
+use Rattle.reader.specs.Reader.{read_packet}
 
 -- a hub after reset
 abbrev reset : Hub
@@ -21,7 +20,7 @@ abbrev write : ℕ → ℕ → Hub
 write offset value = hub_burst reset offset (value ∷ [])
 
 -- the packet 40 01 00
-abbrev frame_start : Corrected → Packet
+abbrev frame_start : Option ℕ → Packet
 frame_start corrected = record { data_identifier = 0x40; word_count = 0x0001; corrected = corrected }
 
 pub record StarredCases : Type 0 where
@@ -36,8 +35,8 @@ pub record StarredCases : Type 0 where
   pub zero_header : check_byte 0x000000 ≡ 0x00
   pub start_header : check_byte 0x000140 ≡ 0x0C
   -- "Read 41 01 00 0C: taken as 40 01 00. 40 01 00 4C likewise. 40 01 00 0F: refusal 10."
-  pub identifier_bit : read_packet (0x41 ∷ 0x01 ∷ 0x00 ∷ 0x0C ∷ []) ≡ given (frame_start (HeaderBit 0))
-  pub check_bit : read_packet (0x40 ∷ 0x01 ∷ 0x00 ∷ 0x4C ∷ []) ≡ given (frame_start (HeaderBit 30))
+  pub identifier_bit : read_packet (0x41 ∷ 0x01 ∷ 0x00 ∷ 0x0C ∷ []) ≡ given (frame_start (Some 0))
+  pub check_bit : read_packet (0x40 ∷ 0x01 ∷ 0x00 ∷ 0x4C ∷ []) ≡ given (frame_start (Some 30))
   pub two_bits : read_packet (0x40 ∷ 0x01 ∷ 0x00 ∷ 0x0F ∷ []) ≡ refused 10
   -- "RAW10 3FF, 0, 0, 1 gives FF 00 00 00 43. RAW12 ABC, 123 gives AB 12 3C."
   pub raw10 : payload_of Raw10 (0x3FF ∷ 0 ∷ 0 ∷ 1 ∷ []) ≡ 0xFF ∷ 0x00 ∷ 0x00 ∷ 0x00 ∷ 0x43 ∷ []

@@ -8,9 +8,19 @@ mod print;
 mod register_cases;
 mod unpacking_cases;
 
-fn main() {
-    register_cases::run();
-    packet_cases::run();
-    unpacking_cases::run();
-    frame_cases::run();
+use std::io;
+
+fn run(rt: &impl Print) -> io::Result<()> {
+    register_cases::run(rt)?;
+    packet_cases::run(rt)?;
+    unpacking_cases::run(rt)?;
+    frame_cases::run(rt)
+}
+
+// (A line that cannot be written is not told: whoever runs the cases compares what they printed.)
+fn main(rt: HostRuntime) {
+    match run(&rt) {
+        Ok(()) => {}
+        Err(_) => {}
+    }
 }

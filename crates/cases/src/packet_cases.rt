@@ -2,12 +2,11 @@
 ghost use Rattle.std.specs.Prelude.{◌≤◌};
 
 use crate::print;
+use crate::print::Bytes;
 use csi2::long;
-use csi2::long::LongAnswer;
-use ecc::Corrected;
 use formats::Format;
-use packing::PackAnswer;
-use reader::PacketRead;
+use reader::{Packet, PacketRefusal};
+use std::io;
 
 // The standard's two checksum vectors.
 const FIRST_VECTOR: [u8; 24] = [
@@ -20,128 +19,110 @@ const SECOND_VECTOR: [u8; 24] = [
     0xD2, 0x3C, 0x78, 0xE9, 0xFF, 0x00, 0x00, 0x01,
 ];
 
-fn print_check_byte(word: u32) {
-    print::text(b"check byte of the header word");
-    print::decimal(word as u64);
-    print::text(b": ");
-    print::byte(ecc::check_byte(word));
-    print::end_line();
+fn print_check_byte(rt: &impl Print, word: u32) -> io::Result<()> {
+    println!(rt;
+        "check byte of the header word {word}: {:02X}",
+        ecc::check_byte(word)
+    )
 }
 
-fn print_corrected(corrected: Corrected) {
-    match corrected {
-        Corrected::Nothing => print::text(b" nothing corrected"),
-        Corrected::HeaderBit(bit) => {
-            print::text(b" corrected bit");
-            print::decimal(bit as u64);
+fn print_packet(rt: &impl Print, answer: Result<Packet, PacketRefusal>) -> io::Result<()> {
+    match answer {
+        Ok(packet) => {
+            print!(rt; " {:02X} {}", packet.data_identifier, packet.word_count)?;
+            match packet.corrected {
+                None => print!(rt; " nothing corrected"),
+                Some(bit) => print!(rt; " corrected bit {bit}"),
+            }
         }
+        Err(refusal) => print::refusal(rt, refusal),
     }
-}
-
-fn print_packet(packet: PacketRead) {
-    match packet {
-        PacketRead::Truncated => print::refusal(12),
-        PacketRead::HeaderUncorrectable => print::refusal(10),
-        PacketRead::ChecksumWrong => print::refusal(11),
-        PacketRead::Accepted {
-            data_identifier,
-            word_count,
-            corrected,
-        } => {
-            print::symbol(b' ');
-            print::byte(data_identifier);
-            print::decimal(word_count as u64);
-            print_corrected(corrected);
-        }
-    }
-    print::end_line();
 }
 
 // Reads the packet with these bytes.
-fn print_read(identifier: u8, low: u8, high: u8, check: u8) {
-    let bytes = [identifier, low, high, check];
-    print::text(b"read ");
-    print::bytes(&bytes);
-    print::symbol(b':');
-    print_packet(reader::read_packet(&bytes));
+fn print_read(rt: &impl Print, bytes: [u8; 4]) -> io::Result<()> {
+    print!(rt; "read {}:", Bytes(&bytes))?;
+    print_packet(rt, reader::read_packet(&bytes))?;
+    println!(rt; "")
 }
 
-fn print_packed(name: &[u8], format: Format, pixels: &[u16]) {
-    print::text(name);
+fn print_packed(rt: &impl Print, name: &str, format: Format, pixels: &[u16]) -> io::Result<()> {
+    print!(rt; "{name}")?;
     let mut buf = [0u8; 8];
-    match packing::pack_pixels(format, pixels, &mut buf, 0) {
-        PackAnswer::WidthNotAllowed => print::refusal(5),
-        PackAnswer::PixelTooLarge => print::refusal(6),
-        PackAnswer::NoRoom => print::refusal(8),
-        PackAnswer::Packed(bytes) => {
-            print::length(bytes);
-            print::text(b", with the rest of 8: ");
-            print::bytes(&buf);
-        }
+    let answer = packing::pack_pixels(format, pixels, &mut buf, 0);
+    print::count(rt, answer, "bytes")?;
+    if answer.is_ok() {
+        print!(rt; ", with the rest of 8: {}", Bytes(&buf))?;
     }
-    print::end_line();
+    println!(rt; "")
 }
 
-fn print_checksum(bytes: &[u8]) {
-    let sum = crc::checksum(bytes);
-    print::text(b"checksum of the standard's vector: ");
-    print::byte((sum / 256) as u8);
-    print::byte((sum % 256) as u8);
-    print::end_line();
+fn print_checksum(rt: &impl Print, bytes: &[u8]) -> io::Result<()> {
+    println!(rt;
+        "checksum of the standard's vector: {:04X}",
+        crc::checksum(bytes)
+    )
 }
 
-fn print_long(answer: LongAnswer) {
-    match answer {
-        LongAnswer::WidthNotAllowed => print::refusal(5),
-        LongAnswer::PixelTooLarge => print::refusal(6),
-        LongAnswer::ShortType => print::refusal(7),
-        LongAnswer::NoRoom => print::refusal(8),
-        LongAnswer::Wrote(bytes) => print::length(bytes),
-    }
-    print::end_line();
-}
-
-fn print_line(name: &[u8], format: Format, pixels: &[u16], identifier: u8) {
-    print::text(name);
+fn print_line(
+    rt: &impl Print,
+    name: &str,
+    format: Format,
+    pixels: &[u16],
+    identifier: u8,
+) -> io::Result<()> {
+    print!(rt; "{name}")?;
     let mut buf = [0u8; 6150];
-    print_long(long::write_pixel_line(format, pixels, identifier, &mut buf, 0));
+    let answer = long::write_pixel_line(format, pixels, identifier, &mut buf, 0);
+    print::count(rt, answer, "bytes")?;
+    println!(rt; "")
 }
 
 // A line of so many pixels, all of them 0.
-fn print_width(name: &[u8], format: Format, width: usize, identifier: u8)
+fn print_width(
+    rt: &impl Print,
+    name: &str,
+    format: Format,
+    width: usize,
+    identifier: u8,
+) -> io::Result<()>
     requires { width ≤ 4097 }
 {
     let zeros = [0u16; 4097];
-    print_line(name, format, &zeros[0..width], identifier);
+    print_line(rt, name, format, &zeros[0..width], identifier)
 }
 
 // A line of four times the pixel, as RAW10.
-fn print_pixel(name: &[u8], pixel: u16, identifier: u8) {
-    let pixels = [pixel; 4];
-    print_line(name, Format::Raw10, &pixels, identifier);
+fn print_pixel(rt: &impl Print, name: &str, pixel: u16, identifier: u8) -> io::Result<()> {
+    print_line(rt, name, Format::Raw10, &[pixel; 4], identifier)
 }
 
 // The widths and pixels at the borders, as RAW10 and as RAW12.
-fn print_borders() {
-    print_width(b"RAW10, width 4096:", Format::Raw10, 4096, 0x2B);
-    print_width(b"RAW12, width 4096:", Format::Raw12, 4096, 0x2C);
-    print_width(b"RAW10, width 4097:", Format::Raw10, 4097, 0x2B);
-    print_width(b"RAW12, width 0:", Format::Raw12, 0, 0x2C);
-    print_pixel(b"RAW10, pixel 3FF:", 0x3FF, 0x2B);
-    print_pixel(b"RAW10, pixel 400:", 0x400, 0x2B);
-    print_pixel(b"type 10:", 0x3FF, 0x10);
-    print_pixel(b"type 0F:", 0x3FF, 0x0F);
+fn print_borders(rt: &impl Print) -> io::Result<()> {
+    print_width(rt, "RAW10, width 4096:", Format::Raw10, 4096, 0x2B)?;
+    print_width(rt, "RAW12, width 4096:", Format::Raw12, 4096, 0x2C)?;
+    print_width(rt, "RAW10, width 4097:", Format::Raw10, 4097, 0x2B)?;
+    print_width(rt, "RAW12, width 0:", Format::Raw12, 0, 0x2C)?;
+    print_pixel(rt, "RAW10, pixel 3FF:", 0x3FF, 0x2B)?;
+    print_pixel(rt, "RAW10, pixel 400:", 0x400, 0x2B)?;
+    print_pixel(rt, "type 10:", 0x3FF, 0x10)?;
+    print_pixel(rt, "type 0F:", 0x3FF, 0x0F)
 }
 
-pub(crate) fn run() {
-    print_check_byte(0x000000);
-    print_check_byte(0x000140);
-    print_read(0x41, 0x01, 0x00, 0x0C);
-    print_read(0x40, 0x01, 0x00, 0x4C);
-    print_read(0x40, 0x01, 0x00, 0x0F);
-    print_packed(b"RAW10 of 3FF, 0, 0, 1:", Format::Raw10, &[0x3FF, 0, 0, 1]);
-    print_packed(b"RAW12 of ABC, 123:", Format::Raw12, &[0xABC, 0x123]);
-    print_checksum(&FIRST_VECTOR);
-    print_checksum(&SECOND_VECTOR);
-    print_borders();
+pub(crate) fn run(rt: &impl Print) -> io::Result<()> {
+    print_check_byte(rt, 0x000000)?;
+    print_check_byte(rt, 0x000140)?;
+    print_read(rt, [0x41, 0x01, 0x00, 0x0C])?;
+    print_read(rt, [0x40, 0x01, 0x00, 0x4C])?;
+    print_read(rt, [0x40, 0x01, 0x00, 0x0F])?;
+    print_packed(
+        rt,
+        "RAW10 of 3FF, 0, 0, 1:",
+        Format::Raw10,
+        &[0x3FF, 0, 0, 1],
+    )?;
+    print_packed(rt, "RAW12 of ABC, 123:", Format::Raw12, &[0xABC, 0x123])?;
+    print_checksum(rt, &FIRST_VECTOR)?;
+    print_checksum(rt, &SECOND_VECTOR)?;
+    print_borders(rt)
 }

@@ -1,24 +1,18 @@
 // The cases on registers, SCL times and addresses.
 use crate::print;
-use hub::{CreationAnswer, Hub};
-use registers::PageAccess;
+use hub::Hub;
 use registers::power_up::PowerUp;
-use translation::{Devices, PortDevice, ReadAnswer, Remote, WriteAnswer};
+use registers::{PageAccess, RegisterFile, power_up, scl};
+use std::{fmt, io};
+use translation::{Addressed, Devices, PortDevice, ReadRefusal, Remote, WriteRefusal};
 
-// The hub 0x3D at reset. (A refused address is said, and the case goes on with the hub that stands beside the refusal.)
+// The hub 0x3D at reset.
 pub(crate) fn start() -> Hub {
-    let made = hub::new(0x3D, PowerUp::Reset);
-    let answer = made.answer;
-    match answer {
-        CreationAnswer::AddressOutOfRange => print::refusal(2),
-        CreationAnswer::Created => {}
-    }
-    made.hub
+    hub::hub_with(0x3D, power_up::registers_at(PowerUp::Reset))
 }
 
 pub(crate) fn write(hub: Hub, offset: u8, value: u8) -> Hub {
-    let values = [value];
-    hub::burst(hub, offset, &values)
+    hub::burst(hub, offset, &[value])
 }
 
 // The broadcast script of the data sheet, under a selection.
@@ -30,115 +24,95 @@ fn broadcast(selection: u8) -> Hub {
     write(hub, 0x65, 0x60)
 }
 
-// A port's device as port:address, an s before the address of a serializer.
-fn print_device(device: PortDevice) {
-    print::symbol(b' ');
-    print::digit(device.port);
-    print::symbol(b':');
-    let remote = device.remote;
-    match remote {
-        Remote::Serializer { address } => {
-            print::symbol(b's');
-            print::byte(address);
-        }
-        Remote::Target { number: _, address } => print::byte(address),
-    }
-}
+// A device as it is printed: port:address, an s before the address of a serializer.
+#[derive(Clone, Copy)]
+struct Shown(PortDevice);
 
-fn print_devices(devices: Devices) {
-    match devices {
-        Devices::One(a) => print_device(a),
-        Devices::Two(a, b) => {
-            print_device(a);
-            print_device(b);
-        }
-        Devices::Three(a, b, c) => {
-            print_device(a);
-            print_device(b);
-            print_device(c);
-        }
-        Devices::Four(a, b, c, d) => {
-            print_device(a);
-            print_device(b);
-            print_device(c);
-            print_device(d);
+impl fmt::Display for Shown {
+    fn fmt<W: fmt::Write>(&self, f: &mut fmt::Formatter<W>) -> fmt::Result {
+        let port = self.0.port;
+        match self.0.remote {
+            Remote::Serializer { address } => write!(f, "{port}:s{address:02X}"),
+            Remote::Target { address, .. } => write!(f, "{port}:{address:02X}"),
         }
     }
 }
 
-fn print_write(answer: WriteAnswer) {
+fn print_write(
+    rt: &impl Print,
+    answer: Result<Addressed<Devices>, WriteRefusal>,
+) -> io::Result<()> {
     match answer {
-        WriteAnswer::AddressAbove7F => print::refusal(2),
-        WriteAnswer::Hub => print::text(b" hub"),
-        WriteAnswer::NoDevice => print::text(b" none"),
-        WriteAnswer::Devices(devices) => print_devices(devices),
+        Ok(Addressed::Hub) => print!(rt; " hub"),
+        Ok(Addressed::NoDevice) => print!(rt; " none"),
+        Ok(Addressed::Found(devices)) => {
+            for k in 0..4 {
+                if let Some(device) = devices.get(k) {
+                    print!(rt; " {}", Shown(device))?;
+                }
+            }
+            Ok(())
+        }
+        Err(refusal) => print::refusal(rt, refusal),
     }
 }
 
-fn print_read(answer: ReadAnswer) {
+fn print_read(
+    rt: &impl Print,
+    answer: Result<Addressed<PortDevice>, ReadRefusal>,
+) -> io::Result<()> {
     match answer {
-        ReadAnswer::AddressAbove7F => print::refusal(2),
-        ReadAnswer::Unclear => print::refusal(9),
-        ReadAnswer::Hub => print::text(b" hub"),
-        ReadAnswer::NoDevice => print::text(b" none"),
-        ReadAnswer::Device(device) => print_device(device),
+        Ok(Addressed::Hub) => print!(rt; " hub"),
+        Ok(Addressed::NoDevice) => print!(rt; " none"),
+        Ok(Addressed::Found(device)) => print!(rt; " {}", Shown(device)),
+        Err(refusal) => print::refusal(rt, refusal),
     }
 }
 
 // What the register at `offset` reads after FF was written to it.
-fn print_after_ff(offset: u8) {
+fn print_after_ff(rt: &impl Print, offset: u8) -> io::Result<()> {
     let read = hub::read(write(start(), offset, 0xFF), offset);
-    print::text(b"register ");
-    print::byte(offset);
-    print::text(b" after FF: ");
-    print::byte(read);
-    print::end_line();
+    println!(rt; "register {offset:02X} after FF: {read:02X}")
 }
 
-fn print_scl_times(file: registers::RegisterFile) {
-    print::decimal(registers::scl::high_time(file) as u64);
-    print::decimal(registers::scl::low_time(file) as u64);
-    print::end_line();
+fn print_scl_times(rt: &impl Print, file: RegisterFile) -> io::Result<()> {
+    println!(rt; " {} {}", scl::high_time(file), scl::low_time(file))
 }
 
 // The SCL times after `high` was written to SCL_HIGH_TIME and `low` to SCL_LOW_TIME.
-fn print_scl_setting(high: u8, low: u8) {
-    print::text(b"SCL high and low time of ");
-    print::byte(high);
-    print::text(b" and ");
-    print::byte(low);
-    print::symbol(b':');
+fn print_scl_setting(rt: &impl Print, high: u8, low: u8) -> io::Result<()> {
+    print!(rt; "SCL high and low time of {high:02X} and {low:02X}:")?;
     let written = registers::write(registers::reset(), PageAccess::Selection, 0x0A, high);
-    print_scl_times(registers::write(written, PageAccess::Selection, 0x0B, low));
+    print_scl_times(
+        rt,
+        registers::write(written, PageAccess::Selection, 0x0B, low),
+    )
 }
 
 // After reset, then the three settings of the data sheet's table 5-14.
-fn print_scl_cases() {
-    print::text(b"SCL high and low time after reset:");
-    print_scl_times(registers::reset());
-    print_scl_setting(0x7A, 0x7A);
-    print_scl_setting(0x13, 0x25);
-    print_scl_setting(0x06, 0x0C);
+fn print_scl_cases(rt: &impl Print) -> io::Result<()> {
+    print!(rt; "SCL high and low time after reset:")?;
+    print_scl_times(rt, registers::reset())?;
+    print_scl_setting(rt, 0x7A, 0x7A)?;
+    print_scl_setting(rt, 0x13, 0x25)?;
+    print_scl_setting(rt, 0x06, 0x0C)
 }
 
 // Who hears a write to 30 after the broadcast script, and who answers a read of it.
-fn print_broadcast(name: &[u8], selection: u8) {
+fn print_broadcast(rt: &impl Print, name: &str, selection: u8) -> io::Result<()> {
     let hub = broadcast(selection);
-    print::text(name);
-    print::text(b", write to 30:");
-    print_write(translation::who_hears_write(hub, 0x30));
-    print::end_line();
-    print::text(name);
-    print::text(b", read of 30:");
-    print_read(translation::who_answers_read(hub, 0x30));
-    print::end_line();
+    print!(rt; "{name}, write to 30:")?;
+    print_write(rt, translation::who_hears_write(hub, 0x30))?;
+    print!(rt; "\n{name}, read of 30:")?;
+    print_read(rt, translation::who_answers_read(hub, 0x30))?;
+    println!(rt; "")
 }
 
-pub(crate) fn run() {
-    print_after_ff(0x1F);
-    print_after_ff(0xB6);
-    print_after_ff(0x4C);
-    print_scl_cases();
-    print_broadcast(b"broadcast", 0x0F);
-    print_broadcast(b"ports 0 and 1, read port 2", 0x23);
+pub(crate) fn run(rt: &impl Print) -> io::Result<()> {
+    for offset in [0x1F, 0xB6, 0x4C] {
+        print_after_ff(rt, offset)?;
+    }
+    print_scl_cases(rt)?;
+    print_broadcast(rt, "broadcast", 0x0F)?;
+    print_broadcast(rt, "ports 0 and 1, read port 2", 0x23)
 }

@@ -38,6 +38,9 @@ module _ {hub moved : Hub} {d : List ℕ} {place : ℕ} where
       go (refused_with number detail) = record { answered = refl; state = refl; buffer = refl }
       go (given bytes) = record { answered = refl; state = refl; buffer = refl }
 
+-- how the packet of an event leaves, for a function that sends one
+pub ruleset sending = (route_given, forward_by, event_dropped, event_sent)
+
 -- a refusal changes nothing, whatever the event, and no event changes a register
 pub refusal_changes_nothing : RefusalChangesNothing
 refusal_changes_nothing hub event buffer place number detail e =

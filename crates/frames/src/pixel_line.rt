@@ -7,7 +7,7 @@ use hub::{Hub, LastFrame, forwarding};
 use packing::check;
 
 // A pixel line on a port; the packet is written from the place. The hub stays as it is.
-#[tactic(auto, using(hub::proofs::Routes::route_given, packing::proofs::CheckLaws::good_width, csi2::proofs::WriterLaws::long_good, crate::proofs::EventLaws::forward_by, crate::proofs::EventLaws::event_dropped, crate::proofs::EventLaws::event_sent), unfolding(crate::specs::Events::event_reply, crate::specs::Events::if_open))]
+#[tactic(auto, unfolding(crate::specs::Events::event_reply, crate::specs::Events::if_open))]
 pub fn pixel_line(
     hub: Hub,
     port: u8,

@@ -20,7 +20,7 @@ pub(crate) struct SyncPacket {
 }
 
 // Writes the packet from the place, unless it is dropped or refused.
-#[tactic(auto, using(hub::proofs::Routes::route_given, crate::proofs::EventLaws::forward_by, crate::proofs::EventLaws::event_dropped, crate::proofs::EventLaws::event_sent))]
+#[tactic(auto, using(crate::proofs::EventLaws::sending))]
 pub(crate) fn put_sync(
     hub: Hub,
     packet: SyncPacket,
