@@ -1,8 +1,10 @@
 // Why a line of a script is likely to have another shape than a call's, told by the bytes that people type or that
 // programs leave there.
-ghost use Rattle.std.specs.Prelude.{◌≤◌, length};
+ghost use Rattle.std.specs.Prelude.{◌<◌, length};
 
-use console::say::STDERR_FILENO;
+use calls::digit;
+use std::fmt;
+use std::fmt::Display;
 
 #[derive(Clone, Copy)]
 pub(crate) enum Cause {
@@ -24,106 +26,61 @@ pub(crate) enum Cause {
     BareValue,
 }
 
-fn lowercase(byte: u8) -> u8 {
-    if b'A' <= byte {
-        if byte <= b'Z' {
-            return byte + 32;
-        }
-    }
-    byte
-}
-
-// Whether the text begins with the part, or with it in any capitals where the part is given in small letters.
-fn begins_with(text: &[u8], part: &[u8], any_case: bool) -> bool {
-    if text.len() < part.len() {
-        return false;
-    }
-    for place in 0..part.len() {
-        let mut byte = text[place];
-        if any_case {
-            byte = lowercase(byte);
-        }
-        if byte != part[place] {
-            return false;
-        }
-    }
-    true
-}
-
 // Whether the part stands somewhere in the text.
-fn holds(text: &[u8], part: &[u8], any_case: bool) -> bool {
-    for place in 0..text.len() {
-        if begins_with(buffers::bytes_from(text, place), part, any_case) {
-            return true;
-        }
-    }
-    false
+fn holds(text: &[u8], part: &[u8]) -> bool
+    requires { 0 < length part.now }
+{
+    text.windows(part.len()).any(|window| window == part)
 }
 
-// The place of the first such byte, or the end.
-pub(crate) fn place_of(text: &[u8], byte: u8) -> usize
-    ensures { result ≤ length text.now }
+// The same, in any capitals.
+fn holds_in_any_case(text: &[u8], part: &[u8]) -> bool
+    requires { 0 < length part.now }
 {
-    for place in 0..text.len() {
-        if text[place] == byte {
-            return place;
-        }
-    }
-    text.len()
+    text.windows(part.len())
+        .any(|window| window.eq_ignore_ascii_case(part))
 }
 
 // Whether the byte stands more than once in the text.
 fn has_two(text: &[u8], byte: u8) -> bool {
-    let first = place_of(text, byte);
-    if first < text.len() {
-        let rest = buffers::bytes_from(text, first + 1);
-        return place_of(rest, byte) < rest.len();
-    }
-    false
+    text.iter().filter(|other| **other == byte).count() > 1
+}
+
+fn after_blanks(text: &[u8]) -> &[u8] {
+    let start = text.iter().position(|byte| *byte != b' ' && *byte != b'\t');
+    &text[start.unwrap_or(text.len())..]
 }
 
 // Whether a value without 0x stands at the start of the text.
 fn is_bare(text: &[u8]) -> bool {
-    if begins_with(text, b"0x", false) {
-        return false;
+    match text {
+        [] | [b'0', b'x', ..] => false,
+        [first, ..] => digit::value(*first).is_some(),
     }
-    calls::digit::value(buffers::byte_at(text, 0)) < 16
 }
 
 // Whether a value after a bracket or a comma is without 0x.
 fn has_bare_value(text: &[u8]) -> bool {
-    let mut expected = false;
-    for place in 0..text.len() {
-        let byte = text[place];
-        if expected {
-            if is_bare(buffers::bytes_from(text, place)) {
-                return true;
-            }
-        }
-        if byte == b'(' || byte == b',' {
-            expected = true;
-        } else if byte != b' ' && byte != b'\t' {
-            expected = false;
-        }
-    }
-    false
+    text.split(|byte| *byte == b'(' || *byte == b',')
+        .skip(1)
+        .any(|value| is_bare(after_blanks(value)))
 }
 
 // What the call itself tells, its comment left out.
 fn cause_in_call(text: &[u8]) -> Cause {
-    if holds(text, b"//", false) {
+    if holds(text, b"//") {
         return Cause::Slashes;
     }
-    if holds(text, b"&", false) || holds(text, b"<", false) {
+    if text.contains(&b'&') || text.contains(&b'<') {
         return Cause::WebPage;
     }
-    if holds(text, b";", false) {
+    if text.contains(&b';') {
         return Cause::Semicolon;
     }
-    if holds(text, b"0X", false) {
+    if holds(text, b"0X") {
         return Cause::CapitalX;
     }
-    if holds(text, b"writei2c", true) && !holds(text, b"WriteI2C", false) {
+    if holds_in_any_case(text, b"WriteI2C") && !holds(text, b"WriteI2C") {
         return Cause::OtherCase;
     }
     if has_two(text, b'(') {
@@ -140,28 +97,29 @@ fn cause_in_call(text: &[u8]) -> Cause {
 
 // Whether a space that does not break stands in the text, wide or narrow, as UTF-8 has them.
 fn has_no_break_space(text: &[u8]) -> bool {
-    holds(text, &[0xC2, 0xA0], false) || holds(text, &[0xE2, 0x80, 0xAF], false)
+    holds(text, b"\xC2\xA0") || holds(text, b"\xE2\x80\xAF")
 }
 
 // The likely cause of a line's shape; `ended` where a line feed follows it.
 pub(crate) fn cause_of(line: &[u8], ended: bool) -> Cause {
-    if begins_with(line, &[0x9A, 0x64], false) {
+    if line.starts_with(b"\x9A\x64") {
         return Cause::Trace;
     }
-    if holds(line, &[0], false) {
+    if line.contains(&0) {
         return Cause::NoText;
     }
     if !ended {
         return Cause::NoLineFeed;
     }
-    if begins_with(line, &[0xEF, 0xBB, 0xBF], false) {
+    if line.starts_with(b"\xEF\xBB\xBF") {
         return Cause::ByteOrderMark;
     }
-    if holds(line, b"\r", false) {
+    if line.contains(&b'\r') {
         return Cause::CarriageReturn;
     }
-    let call = &line[0..place_of(line, b'#')];
-    if holds(call, b">", false) && !holds(call, b"<", false) {
+    let comment = line.iter().position(|byte| *byte == b'#');
+    let call = &line[..comment.unwrap_or(line.len())];
+    if call.contains(&b'>') && !call.contains(&b'<') {
         return Cause::MailQuotation;
     }
     if has_no_break_space(call) {
@@ -171,37 +129,27 @@ pub(crate) fn cause_of(line: &[u8], ended: bool) -> Cause {
 }
 
 // Words for a cause, between the line's number and the line.
-pub(crate) fn say(cause: Cause) {
-    match cause {
-        Cause::NotTold => words(b" is neither blank nor one call such as WriteI2C(0x4c,0x0f): "),
-        Cause::NoText => words(b" is no text; save the script as plain text, in UTF-8 or ASCII: "),
-        Cause::Trace => words(
-            b" begins as a trace does; show and play take a trace, without an address: ",
-        ),
-        Cause::NoLineFeed => words(b" has no line feed at its end; press Enter after it: "),
-        Cause::ByteOrderMark => words(
-            b" begins with a byte order mark; save the script without one: ",
-        ),
-        Cause::CarriageReturn => words(
-            b" has a carriage return; save the script with Unix line ends: ",
-        ),
-        Cause::MailQuotation => words(b" has > as a mail quotes it; take that away: "),
-        Cause::NoBreakSpace => words(b" has a space that does not break; type a plain one: "),
-        Cause::Slashes => words(b" has //; a comment begins with #: "),
-        Cause::WebPage => words(
-            b" has & or < of a web page; type a call such as WriteI2C(0x4c,0x0f): ",
-        ),
-        Cause::Semicolon => words(b" has a semicolon; type a call such as WriteI2C(0x4c,0x0f): "),
-        Cause::CapitalX => words(b" has 0X; type 0x: "),
-        Cause::OtherCase => words(b" has the word in other capitals; type WriteI2C: "),
-        Cause::ManyCalls => words(b" has more than one call; give each a line of its own: "),
-        Cause::ManyValues => words(
-            b" has more than an offset and one value; type a call for each value: ",
-        ),
-        Cause::BareValue => words(b" has a value without 0x; values are hex, as in 0x4c: "),
+impl Display for Cause {
+    fn fmt<W: fmt::Write>(&self, f: &mut fmt::Formatter<W>) -> fmt::Result {
+        f.write_str(match self {
+            Cause::NotTold => "is neither blank nor one call such as WriteI2C(0x4c,0x0f)",
+            Cause::NoText => "is no text; save the script as plain text, in UTF-8 or ASCII",
+            Cause::Trace =>
+                "begins as a trace does; show and play take a trace, without an address",
+            Cause::NoLineFeed => "has no line feed at its end; press Enter after it",
+            Cause::ByteOrderMark => "begins with a byte order mark; save the script without one",
+            Cause::CarriageReturn => "has a carriage return; save the script with Unix line ends",
+            Cause::MailQuotation => "has > as a mail quotes it; take that away",
+            Cause::NoBreakSpace => "has a space that does not break; type a plain one",
+            Cause::Slashes => "has //; a comment begins with #",
+            Cause::WebPage => "has & or < of a web page; type a call such as WriteI2C(0x4c,0x0f)",
+            Cause::Semicolon => "has a semicolon; type a call such as WriteI2C(0x4c,0x0f)",
+            Cause::CapitalX => "has 0X; type 0x",
+            Cause::OtherCase => "has the word in other capitals; type WriteI2C",
+            Cause::ManyCalls => "has more than one call; give each a line of its own",
+            Cause::ManyValues =>
+                "has more than an offset and one value; type a call for each value",
+            Cause::BareValue => "has a value without 0x; values are hex, as in 0x4c",
+        })
     }
-}
-
-fn words(text: &[u8]) {
-    io::write_all(STDERR_FILENO, text);
 }

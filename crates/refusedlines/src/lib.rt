@@ -2,14 +2,13 @@
 // can be mended at once.
 #![tactic(auto)]
 
-ghost use Rattle.std.specs.Prelude.{◌≤◌};
+ghost use Rattle.std.specs.Prelude.{◌≤◌, ◌<◌, length, IfSome};
 
-use console::input::Read;
-use console::opened::Opened;
-use console::say::{Command, STDERR_FILENO};
-use console::{input, say, shown};
-use scriptlines::{LineRefusal, ScriptFile, ScriptRun};
-use std::num::wrapping_add_u64;
+use console::input::Input;
+use console::say::Command;
+use console::shown::Text;
+use console::{input, say};
+use scriptlines::{ScriptFile, ScriptRun};
 use streams::Window;
 
 mod cause;
@@ -20,171 +19,123 @@ const LONGEST_LINE: usize = 200;
 // So many refused lines are named; those behind them are counted.
 const MOST_NAMED: u64 = 20;
 
-// How far the refused lines are named: the script, whether its next bytes are still those of a refused line, how many
-// lines were refused, and whether nothing is left to read.
-#[derive(Clone, Copy)]
-struct Naming {
-    file: ScriptFile,
-    inside: bool,
-    count: u64,
-    over: bool,
+// Where the first line of the text ends, if a line feed ends it.
+fn line_end(text: &[u8]) -> Option<usize>
+    ensures { IfSome result (λ end. end < length text.now) }
+{
+    text.iter().position(|byte| *byte == b'\n')
 }
 
-// A line, of a longer one the first bytes.
-fn show_line(line: &[u8]) {
+// A line that is too long, of which the first bytes are given, in words.
+fn name_long(command: Command, first: &[u8], number: u64) {
+    let shown = Text(first);
+    say::words(
+        command,
+        format_args!("line {number} has more than {LONGEST_LINE} bytes: {shown}..."),
+    );
+}
+
+// A line of another shape, in words; `ended` where a line feed follows it.
+fn name_shape(command: Command, line: &[u8], ended: bool, number: u64) {
+    let cause = cause::cause_of(line, ended);
+    let shown = Text(line);
+    say::words(command, format_args!("line {number} {cause}: {shown}"));
+}
+
+fn name_line(command: Command, line: &[u8], ended: bool, number: u64) {
     if LONGEST_LINE < line.len() {
-        shown::text(&line[0..LONGEST_LINE]);
-        io::write_all(STDERR_FILENO, b"...\n");
-        return;
+        name_long(command, &line[0..LONGEST_LINE], number);
+    } else {
+        name_shape(command, line, ended, number);
     }
-    shown::text(line);
-    io::write_all(STDERR_FILENO, b"\n");
 }
 
 // The line at the start of the text, in words.
-fn name_line(command: Command, text: &[u8], number: u64) {
-    let end = cause::place_of(text, b'\n');
-    let line = &text[0..end];
-    say::numbered(command, b"line ", number, b"");
-    if LONGEST_LINE < line.len() {
-        io::write_all(STDERR_FILENO, b" has more than 200 bytes: ");
-    } else {
-        cause::say(cause::cause_of(line, end < text.len()));
-    }
-    show_line(line);
+fn name_first(command: Command, text: &[u8], number: u64) {
+    let end = line_end(text);
+    let line = &text[..end.unwrap_or(text.len())];
+    name_line(command, line, end.is_some(), number);
 }
 
 // What a window holds, never more than the buffer has.
 fn held_in(window: Window, size: usize) -> usize
     ensures { result ≤ size }
 {
-    let whole = streams::after_read(window, 0, size);
-    whole.held
+    streams::after_read(window, 0, size).held
 }
 
-// Leaves out the bytes at the buffer's start up to a line feed.
-fn skip(naming: Naming, run: ScriptRun, window: Window, buffer: &mut [u8]) -> Naming {
-    let held = held_in(window, buffer.len());
-    let end = cause::place_of(&buffer[0..held], b'\n');
-    let mut used = end;
-    if end < held {
-        used = end + 1;
-    }
-    let left = streams::slide(buffer, used, held);
-    let last = window.last;
-    Naming {
-        file: ScriptFile {
-            run,
-            window: Window { held: left, last },
-        },
-        inside: end == held && !last,
-        count: naming.count,
-        over: last && left == 0,
-    }
-}
-
-// Names the refused line at the buffer's start, or only counts it, and leaves it out.
-fn name_next(command: Command, naming: Naming, file: ScriptFile, buffer: &mut [u8]) -> Naming {
-    let run = file.run;
-    let window = file.window;
-    let number = scriptlines::refused_line(run);
-    if naming.count < MOST_NAMED {
+// Leaves out the refused line at the buffer's start, however long it is; none where nothing is behind it.
+fn skip_line(from: Input<'_>, file: ScriptFile, buffer: &mut [u8]) -> Option<ScriptFile> {
+    let run = ScriptRun {
+        lines: scriptlines::refused_line(file.run),
+        refusal: None,
+    };
+    let mut window = file.window;
+    for _ in 0..u64::MAX {
         let held = held_in(window, buffer.len());
-        name_line(command, &buffer[0..held], number);
+        let end = line_end(&buffer[..held]);
+        let used = match end {
+            Some(place) => place + 1,
+            None => held,
+        };
+        window.held = streams::slide(buffer, used, held);
+        if window.last && window.held == 0 {
+            return None;
+        }
+        if end.is_some() {
+            return Some(ScriptFile { run, window });
+        }
+        let got = input::read_on(from, window, buffer).ok()?;
+        window = streams::after_read(window, got, buffer.len());
     }
-    let counted = Naming {
-        file,
-        inside: true,
-        count: wrapping_add_u64(naming.count, 1),
-        over: false,
-    };
-    let taken = ScriptRun {
-        lines: number,
-        refusal: LineRefusal::NoRefusal,
-    };
-    skip(counted, taken, window, buffer)
+    None
 }
 
-// Takes the bytes that were read, to the next refused line.
-fn take_bytes(
-    command: Command,
-    naming: Naming,
-    got: usize,
+// Leaves out the refused line at the buffer's start, and reads on to the next one, if there is one. No script has as
+// many turns as the loop.
+fn next_refused(
+    from: Input<'_>,
+    file: ScriptFile,
     buffer: &mut [u8],
     records: &mut [u8],
-) -> Naming {
-    let file = naming.file;
-    if naming.inside {
-        let window = streams::after_read(file.window, got, buffer.len());
-        return skip(naming, file.run, window, buffer);
+) -> Option<ScriptFile> {
+    let mut file = skip_line(from, file, buffer)?;
+    for _ in 0..u64::MAX {
+        let got = input::read_on(from, file.window, buffer).ok()?;
+        let turn = scriptlines::turn(file, got, buffer, records);
+        file = turn.file;
+        if file.run.refusal.is_some() {
+            return Some(file);
+        }
+        if turn.done {
+            return None;
+        }
     }
-    let turn = scriptlines::turn(file, got, buffer, records);
-    let after = turn.file;
-    let run = after.run;
-    let refusal = run.refusal;
-    if scriptlines::refusal_number(refusal) != 0 {
-        return name_next(command, naming, after, buffer);
-    }
-    Naming {
-        file: after,
-        inside: false,
-        count: naming.count,
-        over: turn.done,
-    }
-}
-
-fn step(
-    command: Command,
-    from: &Opened,
-    script: &[u8],
-    naming: Naming,
-    buffer: &mut [u8],
-    records: &mut [u8],
-) -> Naming {
-    let file = naming.file;
-    match input::read_on(command, from, script, file.window, buffer) {
-        Read::Failed => Naming {
-            file,
-            inside: false,
-            count: naming.count,
-            over: true,
-        },
-        Read::Got(got) => take_bytes(command, naming, got, buffer, records),
-    }
+    None
 }
 
 fn say_more(command: Command, count: u64) {
     if MOST_NAMED < count {
-        say::numbered(
-            command,
-            b"refused lines besides these: ",
-            count - MOST_NAMED,
-            b"\n",
-        );
+        let more = count - MOST_NAMED;
+        say::words(command, format_args!("refused lines besides these: {more}"));
     }
 }
 
-// Names the refused line that stands at the buffer's start, and reads on to name those behind it. The turns are counted
-// down, from a number that no file uses up.
-pub fn name_all(
-    command: Command,
-    from: &Opened,
-    script: &[u8],
-    file: ScriptFile,
-    buffer: &mut [u8],
-    records: &mut [u8],
-) {
-    let found = Naming {
-        file,
-        inside: true,
-        count: 0,
-        over: false,
-    };
-    let mut naming = name_next(command, found, file, buffer);
-    let mut turns = u64::MAX;
-    while turns > 0 && !naming.over {
-        naming = step(command, from, script, naming, buffer, records);
-        turns -= 1;
+// Names the refused line that stands at the buffer's start, and reads on to name those behind it.
+pub fn name_all(from: Input<'_>, file: ScriptFile, buffer: &mut [u8], records: &mut [u8]) {
+    let mut file = file;
+    for count in 1..u64::MAX {
+        if count <= MOST_NAMED {
+            let held = held_in(file.window, buffer.len());
+            let number = scriptlines::refused_line(file.run);
+            name_first(from.command, &buffer[..held], number);
+        }
+        match next_refused(from, file, buffer, records) {
+            Some(next) => file = next,
+            None => {
+                say_more(from.command, count);
+                break;
+            }
+        }
     }
-    say_more(command, naming.count);
 }
