@@ -1,1 +1,2 @@
+pub mod Devices
 pub mod LineLengths

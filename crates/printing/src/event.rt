@@ -10,7 +10,7 @@ ghost use Rattle.printing.specs.PrintedLines.{event_letter, port_text, outcome_t
 use crate::refusal;
 use answers::{EventKind, Header};
 use buffers::text;
-use frames::EventAnswer;
+use frames::{EventRefusal, Sent};
 
 fn event_letter(event: EventKind) -> u8
     ensures { result ≡ event_letter event }
@@ -56,7 +56,7 @@ pub(crate) fn put_event(
     at: usize,
     event: EventKind,
     port: u8,
-    answer: EventAnswer,
+    answer: Result<Option<Sent>, EventRefusal>,
     header: Header,
 ) -> usize
     ensures { Puts out.old at
@@ -64,16 +64,14 @@ pub(crate) fn put_event(
         out.new result }
 {
     match answer {
-        EventAnswer::Refused(refused) => {
-            refusal::put_refusal(out, at, frames::refusal_number(refused))
-        }
-        EventAnswer::Dropped => {
+        Err(refusal) => refusal::put_refusal(out, at, refusal),
+        Ok(None) => {
             let next = put_port(out, at, event, port);
             buffers::put_bytes(out, next, b"drop")
         }
-        EventAnswer::Sent { csi, bytes: _ } => {
+        Ok(Some(sent)) => {
             let next = put_port(out, at, event, port);
-            put_output(out, next, csi, header)
+            put_output(out, next, sent.csi, header)
         }
     }
 }

@@ -1,12 +1,12 @@
 // The lines that the player prints, put into a buffer from a place on as far as they have room; the answer is the
-// next free place.
+// next free place. (Places in a buffer, and no writer: the player was measured slower by a text by value; decision 8.)
 #![tactic(auto)]
 
 ghost use Rattle.buffers.specs.Putting.{Puts};
 ghost use Rattle.answers.specs.Answers.{answer_reply};
 ghost use Rattle.printing.specs.PrintedLines.{reply_text, printed_line, printed_counts};
 
-use answers::RecordAnswer;
+use answers::{NoRecord, RecordAnswer};
 use buffers::text;
 
 mod event;
@@ -19,7 +19,7 @@ fn put_answer(out: &mut [u8], at: usize, answer: RecordAnswer) -> usize
     ensures { Puts out.old at (reply_text (answer_reply answer)) out.new result }
 {
     match answer {
-        RecordAnswer::NoRecord => refusal::put_refusal(out, at, 13),
+        RecordAnswer::NoRecord => refusal::put_refusal(out, at, NoRecord),
         RecordAnswer::Hub { address, answer } => register::put_hub(out, at, address, answer),
         RecordAnswer::Write { offset, count } => register::put_write(out, at, offset, count),
         RecordAnswer::Read { offset, value } => register::put_read(out, at, offset, value),

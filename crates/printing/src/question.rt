@@ -8,7 +8,7 @@ ghost use Rattle.printing.specs.PrintedLines.{remote_text, device_text, devices_
 
 use crate::refusal;
 use buffers::text;
-use translation::{Devices, PortDevice, ReadAnswer, Remote, WriteAnswer};
+use translation::{Addressed, Devices, PortDevice, ReadRefusal, Remote, WriteRefusal};
 
 fn put_remote(out: &mut [u8], at: usize, remote: Remote) -> usize
     ensures { Puts out.old at (remote_text remote) out.new result }
@@ -18,7 +18,7 @@ fn put_remote(out: &mut [u8], at: usize, remote: Remote) -> usize
             let next = buffers::put_byte(out, at, b's');
             text::put_hex(out, next, address)
         }
-        Remote::Target { number: _, address } => text::put_hex(out, at, address),
+        Remote::Target { address, .. } => text::put_hex(out, at, address),
     }
 }
 
@@ -32,28 +32,16 @@ fn put_device(out: &mut [u8], at: usize, device: PortDevice) -> usize
     put_remote(out, address, remote)
 }
 
-fn put_two_devices(out: &mut [u8], at: usize, a: PortDevice, b: PortDevice) -> usize
-    ensures { Puts out.old at (device_text a ++ device_text b) out.new result }
-{
-    let next = put_device(out, at, a);
-    put_device(out, next, b)
-}
-
 fn put_devices(out: &mut [u8], at: usize, devices: Devices) -> usize
     ensures { Puts out.old at (devices_text (devices_of devices)) out.new result }
 {
-    match devices {
-        Devices::One(a) => put_device(out, at, a),
-        Devices::Two(a, b) => put_two_devices(out, at, a, b),
-        Devices::Three(a, b, c) => {
-            let next = put_two_devices(out, at, a, b);
-            put_device(out, next, c)
-        }
-        Devices::Four(a, b, c, d) => {
-            let next = put_two_devices(out, at, a, b);
-            put_two_devices(out, next, c, d)
+    let mut next = at;
+    for k in 0..4 {
+        if let Some(device) = devices.get(k) {
+            next = put_device(out, next, device);
         }
     }
+    next
 }
 
 // "A ", the address, and what follows.
@@ -69,34 +57,38 @@ pub(crate) fn put_write_question(
     out: &mut [u8],
     at: usize,
     address: u8,
-    answer: WriteAnswer,
+    answer: Result<Addressed<Devices>, WriteRefusal>,
 ) -> usize
     ensures { Puts out.old at
         (reply_text (on_reply (write_heard address) (write_reply answer))) out.new result }
 {
     match answer {
-        WriteAnswer::AddressAbove7F => refusal::put_refusal(out, at, 2),
-        WriteAnswer::Hub => put_question(out, at, address, b" w hub"),
-        WriteAnswer::NoDevice => put_question(out, at, address, b" w none"),
-        WriteAnswer::Devices(devices) => {
+        Ok(Addressed::Hub) => put_question(out, at, address, b" w hub"),
+        Ok(Addressed::NoDevice) => put_question(out, at, address, b" w none"),
+        Ok(Addressed::Found(devices)) => {
             let next = put_question(out, at, address, b" w");
             put_devices(out, next, devices)
         }
+        Err(refusal) => refusal::put_refusal(out, at, refusal),
     }
 }
 
-pub(crate) fn put_read_question(out: &mut [u8], at: usize, address: u8, answer: ReadAnswer) -> usize
+pub(crate) fn put_read_question(
+    out: &mut [u8],
+    at: usize,
+    address: u8,
+    answer: Result<Addressed<PortDevice>, ReadRefusal>,
+) -> usize
     ensures { Puts out.old at
         (reply_text (on_reply (read_answered address) (read_reply answer))) out.new result }
 {
     match answer {
-        ReadAnswer::AddressAbove7F => refusal::put_refusal(out, at, 2),
-        ReadAnswer::Unclear => refusal::put_refusal(out, at, 9),
-        ReadAnswer::Hub => put_question(out, at, address, b" r hub"),
-        ReadAnswer::NoDevice => put_question(out, at, address, b" r none"),
-        ReadAnswer::Device(device) => {
+        Ok(Addressed::Hub) => put_question(out, at, address, b" r hub"),
+        Ok(Addressed::NoDevice) => put_question(out, at, address, b" r none"),
+        Ok(Addressed::Found(device)) => {
             let next = put_question(out, at, address, b" r");
             put_device(out, next, device)
         }
+        Err(refusal) => refusal::put_refusal(out, at, refusal),
     }
 }

@@ -5,14 +5,19 @@ ghost use Rattle.printing.specs.PrintedLines.{write_text, read_text, reply_text}
 
 use crate::refusal;
 use buffers::text;
-use hub::CreationAnswer;
+use hub::AddressOutOfRange;
 
-pub(crate) fn put_hub(out: &mut [u8], at: usize, address: u8, answer: CreationAnswer) -> usize
+pub(crate) fn put_hub(
+    out: &mut [u8],
+    at: usize,
+    address: u8,
+    answer: Result<(), AddressOutOfRange>,
+) -> usize
     ensures { Puts out.old at (reply_text (hub_reply address answer)) out.new result }
 {
     match answer {
-        CreationAnswer::AddressOutOfRange => refusal::put_refusal(out, at, 2),
-        CreationAnswer::Created => {
+        Err(refusal) => refusal::put_refusal(out, at, refusal),
+        Ok(()) => {
             let next = buffers::put_bytes(out, at, b"H ");
             text::put_hex(out, next, address)
         }

@@ -1,21 +1,28 @@
--- `printing::question::put_devices` meets its contract, by the cases of the devices.
-use mathlib.Core.List.{append_assoc, append-nil}
-use Rattle.buffers.proofs.PutLaws.{put_then_lem}
+-- `printing::question::put_devices` meets its contract: one device is put after the other.
+use mathlib.Core.Path.{sym, ◌∙◌}
+use Rattle.buffers.proofs.PutLaws.{put_nothing, put_then_lem}
+use Rattle.translation.specs.Translation.{devices_of}
 use Rattle.printing.specs.PrintedLines.{devices_text}
+use Rattle.printing.proofs.Devices.{text_more, none_more, all_devices}
+use native.Mathlib.Omega.{arith}
 use Rattle.printing.proofs.question.put_devices.Goals as goal
+use Rattle.printing.proofs.question.put_devices.Goals.{in-Some, in_default}
 
-pub returns-in-One : goal.returns-in-One
+pub loop-k-init : goal.loop-k-init
 unfolding devices_text
-returns-in-One c = rw (c.in-One.is, append-nil) c.put_device.ensures
+loop-k-init c = put_nothing _ _
 
-pub returns-in-Two : goal.returns-in-Two
-unfolding devices_text
-returns-in-Two c = rw (c.in-Two.is, append-nil) c.put_two_devices.ensures
+pub loop-k-preserved : goal.loop-k-preserved
+loop-k-preserved c =
+    let devices = devices_of c.args.devices in
+    let k = c.loop-k.k in
+    elim c.match-get.branch [
+      | in-Some w ↦
+          rw (w.out-is, w.next-is, text_more devices k _ (sym c.get.ensures ∙ w.in-Some.is))
+          (put_then_lem c.loop-k.invariant w.put_device-next.ensures)
+      | in_default w ↦
+          rw (w.out-is, w.next-is, none_more devices k (sym c.get.ensures ∙ w.in_default.is)) c.loop-k.invariant
+    ]
 
-pub returns-in-Three : goal.returns-in-Three
-unfolding devices_text
-returns-in-Three c = rw (c.in-Three.is, append-nil) (simp append_assoc at (put_then_lem c.put_two_devices-next.ensures c.put_device-in-Three.ensures))
-
-pub returns-in-Four : goal.returns-in-Four
-unfolding devices_text
-returns-in-Four c = rw (c.in-Four.is, append-nil) (simp append_assoc at (put_then_lem c.put_two_devices-next-in-Four.ensures c.put_two_devices-in-Four.ensures))
+pub returns : goal.returns
+returns c = rw (all_devices c.args.devices c.loop-k.k (omega arith)) at c.loop-k.invariant

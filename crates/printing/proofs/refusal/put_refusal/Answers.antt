@@ -6,4 +6,4 @@ use Rattle.printing.proofs.refusal.put_refusal.Goals as goal
 
 pub returns : goal.returns
 unfolding reply_text
-returns c = rw append-nil (put_then_lem c.put_bytes-next.ensures c.put_decimal.ensures)
+returns g c = rw append-nil (rw c.number.ensures at (put_then_lem c.put_bytes-next.ensures c.put_decimal.ensures))
