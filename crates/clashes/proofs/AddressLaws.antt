@@ -59,47 +59,64 @@ behind_hit port (first ∷ devices) device (Memᴰ.tail m) e =
     go true h = refl
     go false h = h
 
--- the search goes through the places one after the other
-module _ (port : ℕ) (devices : List PortDevice) (k : ℕ) where
-  from_here : (device : PortDevice) → slice_get devices k ≡ Some device
+-- the devices from a place on
+module _ (devices : List PortDevice) where
+  from_here : (k : ℕ) (device : PortDevice) → slice_get devices k ≡ Some device
       → drop k devices ≡ device ∷ drop (k + 1) devices
-  from_here device e =
+  from_here k device e =
       let h : k < length devices = slice_get_within devices k device e in
       rw (add-one k, drop-cons devices k device h)
       (ap (λ (d : PortDevice). d ∷ drop (suc k) devices) (get_or_from_slice_get devices k device device e))
 
-  pub behind_here : (device : PortDevice) → slice_get devices k ≡ Some device → device.port ≡ port
-      → any_behind port (drop k devices) ≡ true
-  unfolding any_behind
-  behind_here device e b = rw (from_here device e, eq-eqb device.port port b)
-
-  pub not_here : (device : PortDevice) → slice_get devices k ≡ Some device → (device.port ≡ port → ⊥)
-      → any_behind port (drop (k + 1) devices) ≡ any_behind port (drop k devices)
-  unfolding any_behind
-  not_here device e n = rw (from_here device e, ne_eqb device.port port n)
-
-  pub nobody_here : slice_get devices k ≡ None
-      → any_behind port (drop (k + 1) devices) ≡ any_behind port (drop k devices)
-  nobody_here e = go (slice_get_cases devices k).1
+  none_here : (k : ℕ) → slice_get devices k ≡ None → drop k devices ≡ drop (k + 1) devices
+  none_here k e = go (slice_get_cases devices k).1
     where
       go : ((x : PortDevice) × (k < length devices) × (slice_get devices k ≡ Some x) × (get_or devices k x ≡ x))
           ⊎ ((length devices ≤ k) × (slice_get devices k ≡ None))
-          → any_behind port (drop (k + 1) devices) ≡ any_behind port (drop k devices)
+          → drop k devices ≡ drop (k + 1) devices
       go (inl s) = zero_not_one (cc)
       go (inr p) =
           rw (drop_of_length-le devices {i = k} p.0, drop_of_length-le devices {i = k + 1} (omega (arith, p.0)))
 
+  -- the same where the place and the next one are named otherwise
+  pub device_at : (k here next : ℕ) → here ≡ k → next ≡ k + 1 → (device : PortDevice)
+      → slice_get devices k ≡ Some device → drop here devices ≡ device ∷ drop next devices
+  device_at k here next p q device e = rw (p, q) (from_here k device e)
+
+  pub none_at : (k here next : ℕ) → here ≡ k → next ≡ k + 1 → slice_get devices k ≡ None
+      → drop here devices ≡ drop next devices
+  none_at k here next p q e = rw (p, q) (none_here k e)
+
+-- the search goes through the places one after the other
+module _ (port : ℕ) (devices : List PortDevice) (k : ℕ) where
+  pub behind_here : (device : PortDevice) → slice_get devices k ≡ Some device → device.port ≡ port
+      → any_behind port (drop k devices) ≡ true
+  unfolding any_behind
+  behind_here device e b = rw (from_here devices k device e, eq-eqb device.port port b)
+
+  pub not_here : (device : PortDevice) → slice_get devices k ≡ Some device → (device.port ≡ port → ⊥)
+      → any_behind port (drop (k + 1) devices) ≡ any_behind port (drop k devices)
+  unfolding any_behind
+  not_here device e n = rw (from_here devices k device e, ne_eqb device.port port n)
+
+  pub nobody_here : slice_get devices k ≡ None
+      → any_behind port (drop (k + 1) devices) ≡ any_behind port (drop k devices)
+  nobody_here e = ap (any_behind port) (sym (none_here devices k e))
+
 -- there are at most four
-pub past_four : (port : ℕ) (devices : Devices) (k : ℕ) → 4 ≤ k → any_behind port (drop k (devices_of devices)) ≡ false
-unfolding any_behind
-past_four port devices k h =
-    rw (drop_of_length-le (devices_of devices) {i = k} (omega (arith, few devices)))
+pub none_past_four : (devices : Devices) (k : ℕ) → 4 ≤ k → drop k (devices_of devices) ≡ []
+none_past_four devices k h =
+    drop_of_length-le (devices_of devices) {i = k} (omega (arith, few devices))
   where
     few : (d : Devices) → length (devices_of d) ≤ 4
     few (Devices.One a) = omega arith
     few (Devices.Two a b) = omega arith
     few (Devices.Three a b c) = omega arith
     few (Devices.Four a b c d) = omega arith
+
+pub past_four : (port : ℕ) (devices : Devices) (k : ℕ) → 4 ≤ k → any_behind port (drop k (devices_of devices)) ≡ false
+unfolding any_behind
+past_four port devices k h = rw (none_past_four devices k h)
 
 pub address_reaches_exact : AddressReachesExact
 unfolding address_reaches

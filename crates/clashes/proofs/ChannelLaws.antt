@@ -4,7 +4,7 @@ use mathlib.Core.Path.{◌≡◌, refl, sym}
 use mathlib.Core.Bool.{Bool, true, false, cond}
 use Prim.Native.Nat.{ℕ, ◌*◌, ◌+◌, ◌<◌}
 use native.Mathlib.Omega.{arith}
-use borrow.Author.Tests.{eq-eqb, ne_eqb, eqb-true}
+use borrow.Author.Tests.{eq-eqb, eqb-true}
 use lib.Dec.{eqb, ltb}
 use Rattle.laws.specs.Bits.{digit, bit}
 use Rattle.laws.specs.Elements.{AreBytes}
@@ -19,26 +19,14 @@ use Rattle.registers.specs.RegisterFiles.{shared_at, page_at}
 use Rattle.hub.specs.declared.Hub.{Hub}
 use Rattle.hub.specs.Routes.{PortRoute, off, output, virtual_channel, port_route, route_of}
 use Rattle.hub.proofs.Routes.{route_refused}
-use Rattle.clashes.specs.Channels.{forwards, is_forwarded, channel_of, is_channel, leaves_by, leaves_on}
+use Rattle.clashes.specs.Channels.{forwards, is_forwarded, channel_of, leaves_by, leaves_on}
 use Rattle.clashes.specs.Channels.{RouteTo, LeavesOnExact, ChannelSharedExact, OnlyThesePorts, OnlyTheseChannels}
 use Rattle.clashes.proofs.TwoPorts.{two_only, two_every}
-
-module _ (csi vc out channel : ℕ) where
-  pub other_output_lem : (csi ≡ out → ⊥) → is_channel csi vc out channel ≡ false
-  other_output_lem n = rw (ne_eqb csi out n)
-
-  pub this_output : csi ≡ out → is_channel csi vc out channel ≡ eqb vc channel
-  this_output e = rw (eq-eqb csi out e)
 
 module _ (hub : Hub) (port : ℕ) {reply : Reply PortRoute} (e : reply ≡ route_of hub.registers port) where
   pub forwarded_by : forwards reply ≡ is_forwarded hub port
   unfolding is_forwarded
   forwarded_by = rw e
-
-  pub leaves_by_lem : (format : Format) (out channel : ℕ)
-      → leaves_by format out channel reply ≡ leaves_on hub format out channel port
-  unfolding leaves_on
-  leaves_by_lem format out channel = rw e
 
 pub only_these_ports : OnlyThesePorts
 only_these_ports hub port h = sym (forwarded_by hub port (sym (route_refused hub.registers port h)))

@@ -1,23 +1,29 @@
 -- The definitions of specs/Addresses.antt by their cases, and the laws of it.
 -- Assumes nothing.
+use Rattle.std.specs.Prelude.{Option}
 use mathlib.Core.Path.{◌≡◌, refl, ap, ◌∙◌}
-use mathlib.Core.Bool.{false}
+use mathlib.Core.Bool.{Bool, true, false, cond}
+use lib.Dec.{ltb}
 use mathlib.Core.List.{List, [], ◌∷◌, ◌++◌}
-use Prim.Native.Nat.{ℕ, zero, suc, ◌*◌, ◌≤◌, ◌<◌}
+use Prim.Native.Nat.{ℕ, suc, ◌*◌, ◌≤◌, ◌<◌}
 use native.Mathlib.Omega.{arith}
-use lib.ListN.{length, get_or-eq_default}
+use lib.ListN.{length, get_or, drop, get_or-eq_default}
 use Rattle.laws.specs.Reply.{Reply, refused_with, given}
 use Rattle.registers.specs.RegisterMap.{BCC_CONFIG}
 use Rattle.hub.specs.declared.Hub.{Hub}
 use Rattle.translation.specs.declared.Remote.{Remote}
 use Rattle.translation.specs.declared.PortDevice.{PortDevice}
-use Rattle.translation.specs.Translation.{Addressed, the_hub, no_device, found, who_hears_write}
+use Rattle.translation.specs.declared.Addressed.{Addressed}
+use Rattle.translation.specs.declared.Addressed.TheVariants.{Hub as the_hub, NoDevice as no_device, Found as found}
+use Rattle.translation.specs.declared.Devices.{Devices}
+use Rattle.translation.specs.Translation.{devices_of, who_hears_write}
 use Rattle.translation.proofs.Laws.{write_reaches_ports}
 use Rattle.ports.specs.PortMasks.{port_mask}
 use Rattle.origins.specs.declared.RegistersWithOrigins.{RegistersWithOrigins}
 use Rattle.origins.specs.Origins.{port_register}
-use Rattle.origins.specs.KeptOrigins.{port_origin, no_origins, kept_number}
+use Rattle.origins.specs.KeptOrigins.{port_origin, past_last, kept_number}
 use Rattle.clashes.specs.Addresses.{address_reaches}
+use Rattle.clashes.proofs.AddressLaws.{none_past_four}
 use Rattle.endstate.specs.declared.findings.Clash.{Clash}
 use Rattle.endstate.specs.declared.gathering.Gathered.{Gathered}
 use Rattle.endstate.specs.declared.lines.Lines.{Lines}
@@ -32,19 +38,19 @@ use Rattle.endstate.proofs.LineRows.{line_more, row_holds}
 use Rattle.endstate.proofs.GatheringLaws.{clash_by_lem}
 
 -- there is no register past 0xFF
-none_there : (port : ℕ) → port_origin no_origins port ≡ 0
-none_there zero = refl
-none_there (suc zero) = refl
-none_there (suc (suc zero)) = refl
-none_there (suc (suc (suc zero))) = refl
-none_there (suc (suc (suc (suc port)))) = refl
+none_there : (port : ℕ) → port_origin past_last port ≡ 0
+none_there port = go (ltb 3 port)
+  where
+    go : (b : Bool) → ◌≡◌ {A = ℕ} (cond b 0 (get_or [] port 0)) 0
+    go true = refl
+    go false = refl
 
 pub past_the_end : (state : RegistersWithOrigins) (port offset : ℕ) → length state.origins ≡ 256 → 255 < offset
     → kept_number state (port_register port offset) ≡ 0
 unfolding kept_number
 past_the_end state port offset size h =
     let out : length state.origins ≤ offset = omega arith in
-    rw (get_or-eq_default state.origins no_origins out) (none_there port)
+    rw (get_or-eq_default state.origins past_last out) (none_there port)
 
 module _ (state : RegistersWithOrigins) (device : PortDevice) where
   pub register_by : (serializer targets : ℕ) (remote : Remote) → device.remote ≡ remote
@@ -74,6 +80,16 @@ module _ (state : RegistersWithOrigins) where
   pub no_alias : {gathered : Gathered} → gathered ≡ gathered_of [] → gathered ≡ gathered_of (alias_origins state [])
   unfolding alias_origins
   no_alias e = e
+
+  -- before the last device there is nothing
+  module _ (devices : Devices) where
+    pub lines_start : {lines : Lines} → lines ≡ lines_row []
+        → lines ≡ lines_row (rising_lines (devices_origins state (drop 4 (devices_of devices))))
+    lines_start e = rw (none_past_four devices 4 (omega arith)) (no_device_lem e)
+
+    pub aliases_start : {gathered : Gathered} → gathered ≡ gathered_of []
+        → gathered ≡ gathered_of (alias_origins state (drop 4 (devices_of devices)))
+    aliases_start e = rw (none_past_four devices 4 (omega arith)) (no_alias e)
 
   -- one device alone
   pub device_alone : (device : PortDevice) {before after : Lines} → before ≡ lines_row []
@@ -120,7 +136,7 @@ module _ (hub : Hub) (state : RegistersWithOrigins) (address : ℕ) {reply : Rep
   aliases_by = rw e
 
 pub address_by : (hub : Hub) (state : RegistersWithOrigins) (address : ℕ) {mask : ℕ} {gathered : Gathered}
-    {clash : Clash} → mask ≡ port_mask (address_reaches hub address)
+    {clash : Option Clash} → mask ≡ port_mask (address_reaches hub address)
     → gathered ≡ gathered_of (alias_origins state (hearers (who_hears_write hub address)))
     → clash ≡ clash_by mask gathered false → clash ≡ clash_of (same_address hub state address)
 unfolding same_address

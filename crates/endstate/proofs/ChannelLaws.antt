@@ -1,9 +1,11 @@
 -- The definitions of specs/Channels.antt by their cases.
 -- Assumes nothing.
+use Rattle.std.specs.Prelude.{Option}
 use mathlib.Core.Path.{◌≡◌, refl, ◌∙◌}
 use mathlib.Core.Bool.{Bool, true, false}
 use mathlib.Core.List.{List, []}
-use Prim.Native.Nat.{ℕ, zero, suc, ◌+◌, ◌≤◌, ◌<◌}
+use Prim.Native.Nat.{ℕ, zero, suc, ◌+◌, ◌-◌, ◌≤◌, ◌<◌}
+use native.Mathlib.Numerals.{add-one}
 use native.Mathlib.Omega.{arith}
 use lib.Dec.{lit<}
 use lib.ListN.{length}
@@ -43,11 +45,19 @@ few_more true number most numbers h = omega arith
 few_more false number most numbers h = omega arith
 
 module _ (holds : ℕ → Bool) (number : ℕ → ℕ) where
-  pub four_ports : {none port3 port2 port1 port0 : Gathered} → none ≡ gathered_of []
-      → AddsPort holds number 3 none port3 → AddsPort holds number 2 port3 port2 → AddsPort holds number 1 port2 port1
-      → AddsPort holds number 0 port1 port0 → port0 ≡ gathered_of (port_numbers holds number)
-  unfolding port_numbers
-  four_ports g p3 p2 p1 p0 = p0 _ (p1 _ (p2 _ (p3 [] g)))
+  -- the numbers of the last k ports
+  unfoldable pub last_ports : ℕ → List ℕ
+  last_ports zero = []
+  last_ports (suc k) = if_in (holds (3 - k)) (number (3 - k)) (last_ports k)
+
+  pub four_ports : (end : ℕ) → 4 ≤ end → end ≤ 4 → last_ports end ≡ port_numbers holds number
+  unfolding port_numbers last_ports
+  four_ports end low high = let e : end ≡ 4 = omega arith in rw e
+
+  pub one_port : (k : ℕ) {before after : Gathered} → AddsPort holds number (3 - k) before after
+      → before ≡ gathered_of (last_ports k) → after ≡ gathered_of (last_ports (k + 1))
+  unfolding last_ports
+  one_port k adds e = rw (add-one k) (adds (last_ports k) e)
 
   pub four_at_most : length (port_numbers holds number) ≤ 4
   unfolding port_numbers
@@ -62,7 +72,7 @@ module _ (holds : ℕ → Bool) (number : ℕ → ℕ) where
   same_numbers also e = rw (e 0 (lit< tt), e 1 (lit< tt), e 2 (lit< tt), e 3 (lit< tt))
 
 module _ (hub : Hub) (state : RegistersWithOrigins) (format : Format) (output channel : ℕ) where
-  pub channel_by : {mask offset : ℕ} {asked : Bool} {gathered : Gathered} {clash : Clash}
+  pub channel_by : {mask offset : ℕ} {asked : Bool} {gathered : Gathered} {clash : Option Clash}
       → mask ≡ port_mask (leaves_on hub format output channel) → offset ≡ identifier_register format
       → gathered
       ≡ gathered_of (port_numbers (λ port. bit port mask) (λ port. kept_number state (port_register port offset)))

@@ -1,5 +1,6 @@
 -- The definition of specs/Findings.antt by its cases, and what it means.
 -- Assumes nothing.
+use Rattle.std.specs.Prelude.{Option, None, Some}
 use mathlib.Core.Path.{◌≡◌, refl}
 use mathlib.Core.Bool.{Bool, true, false, cond}
 use mathlib.Core.List.{List, []}
@@ -9,23 +10,16 @@ use native.Mathlib.Omega.{arith}
 use lib.ListN.{length}
 use Rattle.laws.proofs.Absurd.{zero_not_one}
 use Rattle.ports.specs.PortMasks.{several_ports}
-use Rattle.endstate.specs.declared.findings.Grade.TheVariants.{NoFinding, Meant, Wrong}
+use Rattle.endstate.specs.declared.findings.Grade.{Grade}
+use Rattle.endstate.specs.declared.findings.Grade.TheVariants.{Meant, Wrong}
 use Rattle.endstate.specs.RisingLines.{rising_lines, one_line, OneLine}
 use Rattle.endstate.specs.LineRows.{RowHas}
-use Rattle.endstate.specs.Findings.{grade_by, shared_by, is_graded, SharedMeans, EverySharing}
+use Rattle.endstate.specs.Findings.{grade_by, shared_by, SharedMeans, EverySharing}
 use Rattle.endstate.proofs.LineRows.{row_holds}
 use Rattle.endstate.proofs.OneLine.{one_line_exact}
 
 -- meant exactly where it is asked for, or all origins are one line
 module _ (origins : List ℕ) where
-  graded : (asked : Bool) → is_graded (grade_by origins asked) ≡ true
-  graded true = refl
-  graded false = go (one_line origins)
-    where
-      go : (b : Bool) → is_graded (cond b Meant Wrong) ≡ true
-      go true = refl
-      go false = refl
-
   meant_only_lem : (asked : Bool) → grade_by origins asked ≡ Meant → (asked ≡ true) ⊎ OneLine origins
   meant_only_lem true e = inl refl
   meant_only_lem false e = go (one_line origins) refl e
@@ -44,12 +38,12 @@ module _ (mask : ℕ) (origins : List ℕ) (asked : Bool) where
   unfolding shared_by
   shared_means true q =
       record {
-        found = rw q (graded origins asked);
+        found = rw q;
         nothing = λ e. zero_not_one (cc);
         ports = λ e. rw q;
         lines = λ e. rw q;
-        meant_only = λ e. meant_only_lem origins asked (rw q at e);
-        meant_every = λ e h. rw q (meant_every_lem origins asked h);
+        meant_only = λ e. meant_only_lem origins asked (let m = rw q at e in cc);
+        meant_every = λ e h. rw (q, meant_every_lem origins asked h);
       }
   shared_means false q =
       record {
@@ -57,7 +51,7 @@ module _ (mask : ℕ) (origins : List ℕ) (asked : Bool) where
         nothing = λ e. rw q;
         ports = λ e. zero_not_one (cc);
         lines = λ e. zero_not_one (cc);
-        meant_only = λ e. (let m : NoFinding ≡ Meant = rw q at e in zero_not_one (cc));
+        meant_only = λ e. (let m : ◌≡◌ {A = Option Grade} None (Some Meant) = rw q at e in zero_not_one (cc));
         meant_every = λ e h. zero_not_one (cc);
       }
 

@@ -9,15 +9,12 @@ use borrow.Author.Tests.{eq-eqb, ne_eqb}
 use lib.Dec.{eqb}
 use lib.ListN.{length, get_or, take}
 use Rattle.ports.specs.PortMasks.{several_ports}
-use Rattle.endstate.specs.declared.findings.Grade.{Grade}
-use Rattle.endstate.specs.declared.findings.Grade.TheVariants.{NoFinding}
-use Rattle.endstate.specs.declared.findings.Clash.{Clash}
 use Rattle.endstate.specs.declared.gathering.Gathered.{Gathered}
 use Rattle.endstate.specs.declared.lines.Lines.{Lines}
 use Rattle.endstate.specs.RisingLines.{rising_lines, one_line}
 use Rattle.endstate.specs.LineRows.{before_zero, lines_row}
 use Rattle.endstate.specs.Findings.{shared_by, clash_of}
-use Rattle.endstate.specs.Gathering.{some_unset, gathered_of, with_origin, gathered_one, grade_gathered}
+use Rattle.endstate.specs.Gathering.{some_unset, gathered_of, with_origin, gathered_one}
 use Rattle.endstate.specs.Gathering.{clash_by}
 use Rattle.endstate.proofs.LineRows.{row_first, row_more}
 use Rattle.endstate.proofs.OneLine.{counted_is_one}
@@ -61,18 +58,6 @@ clash_by_lem ports numbers asked = go (several_ports ports) refl
         → clash_by ports (gathered_of numbers) asked ≡ clash_of (shared_by ports numbers asked)
     go true e = rw (e, gathered_one_lem numbers, kept_lines numbers)
     go false e = rw e
-
-module _ (ports : ℕ) (gathered : Gathered) (asked : Bool) where
-  pub clash_none : {lines : Lines} → several_ports ports ≡ false → lines ≡ lines_row []
-      → ◌≡◌ {A = Clash} (record { grade = NoFinding; ports = 0; lines = lines }) (clash_by ports gathered asked)
-  unfolding clash_by
-  clash_none e l = rw (e, l)
-
-  pub clash_some : {grade : Grade} → several_ports ports ≡ true → grade ≡ grade_gathered gathered asked
-      → ◌≡◌ {A = Clash} (record { grade = grade; ports = ports; lines = gathered.lines })
-      (clash_by ports gathered asked)
-  unfolding clash_by
-  clash_some e g = rw (e, g)
 
 -- there is one line where the first place has one and the second has none
 one_place : (l : List ℕ) → eqb (length (before_zero l)) 1 ≡ cond (eqb (get_or l 0 0) 0) false (eqb (get_or l 1 0) 0)

@@ -1,5 +1,6 @@
 -- The count is 0 exactly where nothing is wrong: the law of specs/Wrong.antt.
 -- Assumes nothing.
+use Rattle.std.specs.Prelude.{Option, None, Some}
 use mathlib.Core.Path.{◌≡◌, refl, ap}
 use mathlib.Core.Bool.{Bool, true, false, cond}
 use mathlib.Core.Logic.{◌⊎◌, inl, inr}
@@ -17,7 +18,7 @@ use Rattle.origins.specs.Origins.{FileOfBytes}
 use Rattle.clashes.proofs.ChannelLaws.{channel_shared_exact, only_these_ports, only_these_channels}
 use Rattle.clashes.proofs.AddressLaws.{address_shared_exact, only_these_addresses}
 use Rattle.endstate.specs.declared.findings.Grade.{Grade}
-use Rattle.endstate.specs.declared.findings.Grade.TheVariants.{NoFinding, Meant, Wrong}
+use Rattle.endstate.specs.declared.findings.Grade.TheVariants.{Meant, Wrong}
 use Rattle.endstate.specs.Findings.{is_graded}
 use Rattle.endstate.specs.Channels.{same_channel}
 use Rattle.endstate.specs.Addresses.{same_address}
@@ -46,22 +47,22 @@ module _ (test : ℕ → Bool) where
   none_every zero h = refl
   none_every (suc n) h = rw (h n (omega arith)) (none_every n (λ k (l : k < n). h k (omega arith)))
 
-not_wrong : (grade : Grade) → (grade ≡ Wrong → ⊥) → is_wrong grade ≡ false
-not_wrong NoFinding n = refl
-not_wrong Meant n = refl
-not_wrong Wrong n = absurd (n refl)
+not_wrong : (grade : Option Grade) → (grade ≡ Some Wrong → ⊥) → is_wrong grade ≡ false
+not_wrong None n = refl
+not_wrong (Some Meant) n = refl
+not_wrong (Some Wrong) n = absurd (n refl)
 
 -- where something is wrong, it is looked at
 module _ (hub : Hub) (state : RegistersWithOrigins) where
   channel_looked : FileOfBytes hub.registers → (format : Format) (output channel : ℕ)
-      → (same_channel hub state format output channel).grade ≡ Wrong → (output < 2) × (channel < 4)
+      → (same_channel hub state format output channel).grade ≡ Some Wrong → (output < 2) × (channel < 4)
   channel_looked bytes format output channel e =
       let two = (same_channel_exact hub state format output channel).only (ap is_graded e) in
       let looked = only_these_channels hub format output channel
       ((channel_shared_exact hub format output channel).every two) in
       (looked.0, looked.1 bytes.page_bytes)
 
-  address_looked : (address : ℕ) → (same_address hub state address).grade ≡ Wrong → address < 128
+  address_looked : (address : ℕ) → (same_address hub state address).grade ≡ Some Wrong → address < 128
   address_looked address e = go (ltb 127 address) refl
     where
       go : (b : Bool) → ltb 127 address ≡ b → address < 128

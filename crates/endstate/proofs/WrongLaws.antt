@@ -1,11 +1,14 @@
 -- Laws of counting the numbers below n that a test holds of.
 -- Assumes nothing.
+use Rattle.std.specs.Prelude.{Option, None, Some}
 use mathlib.Core.Path.{◌≡◌, refl}
 use mathlib.Core.Bool.{Bool, true, false, cond}
 use Prim.Native.Nat.{ℕ, zero, suc, ◌+◌, ◌≤◌}
 use native.Mathlib.Numerals.{add-one}
 use native.Mathlib.Omega.{arith}
-use Rattle.endstate.specs.Wrong.{count_below}
+use Rattle.endstate.specs.declared.findings.Grade.{Grade}
+use Rattle.endstate.specs.Findings.{ClashFinding, clash_graded, clash_of}
+use Rattle.endstate.specs.Wrong.{grade_of, is_wrong, count_below}
 
 one_more : {n count : ℕ} (found : Bool) → count ≤ n → cond found (count + 1) count ≤ suc n
 one_more true h = omega arith
@@ -26,3 +29,11 @@ module _ (test : ℕ → Bool) where
   unfolding count_below
   count_within zero = omega arith
   count_within (suc n) = one_more (test n) (count_within n)
+
+-- a finding is wrong as it is graded
+pub finding_grade : (finding : ClashFinding) → is_wrong (grade_of (clash_of finding)) ≡ is_wrong finding.grade
+finding_grade finding = go finding.grade
+  where
+    go : (grade : Option Grade) → is_wrong (grade_of (clash_graded grade finding.ports finding.lines)) ≡ is_wrong grade
+    go None = refl
+    go (Some grade) = refl

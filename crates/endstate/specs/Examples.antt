@@ -1,7 +1,7 @@
 -- The weighbridge in small, two cameras at ports 0 and 1 of the hub 0x3D: short scripts on a hub after reset, and what
 -- is found in the state at their end.
 -- Assumes nothing.
-use Rattle.std.specs.Prelude.{◌≡◌, Bool, true, false, List, [], ◌∷◌, ◌++◌, ℕ, ◌+◌}
+use Rattle.std.specs.Prelude.{◌≡◌, Bool, true, false, List, [], ◌∷◌, ◌++◌, ℕ, ◌+◌, Some}
 use Rattle.formats.specs.declared.Format.TheVariants.{Raw10}
 use Rattle.registers.specs.RegisterFiles.{reset_file}
 use Rattle.hub.specs.declared.Hub.{Hub}
@@ -66,20 +66,20 @@ unset_port port writes = not_set_up (hub_after writes) (state_after writes) port
 -- Ports 0 and 1, mask 3. By two lines it is wrong, by one it is meant; where one port has its start value it is wrong.
 -- FWD_CTL2 may ask for line interleaving, on that output. Two outputs share nothing.
 pub record ChannelExamples : Type 0 where
-  pub two_lines : on_channel 0 0 (two_blocks ++ one_output) ≡ record { grade = Wrong; ports = 3; lines = 5 ∷ 10 ∷ [] }
-  pub one_line : on_channel 0 0 (broadcast ++ one_output) ≡ record { grade = Meant; ports = 3; lines = 5 ∷ [] }
-  pub start_value : on_channel 0 1 (one_port ++ one_output) ≡ record { grade = Wrong; ports = 3; lines = 5 ∷ [] }
+  pub two_lines : on_channel 0 0 (two_blocks ++ one_output) ≡ record { grade = Some Wrong; ports = 3; lines = 5 ∷ 10 ∷ [] }
+  pub one_line : on_channel 0 0 (broadcast ++ one_output) ≡ record { grade = Some Meant; ports = 3; lines = 5 ∷ [] }
+  pub start_value : on_channel 0 1 (one_port ++ one_output) ≡ record { grade = Some Wrong; ports = 3; lines = 5 ∷ [] }
   pub interleaved : on_channel 0 0 (two_blocks ++ (write 11 0x21 0x08 ∷ one_output))
-      ≡ record { grade = Meant; ports = 3; lines = 5 ∷ 10 ∷ [] }
+      ≡ record { grade = Some Meant; ports = 3; lines = 5 ∷ 10 ∷ [] }
   pub other_output : on_channel 0 0 (two_blocks ++ (write 11 0x21 0x20 ∷ one_output))
-      ≡ record { grade = Wrong; ports = 3; lines = 5 ∷ 10 ∷ [] }
+      ≡ record { grade = Some Wrong; ports = 3; lines = 5 ∷ 10 ∷ [] }
   pub output0 : on_channel 0 0 (two_blocks ++ two_outputs) ≡ nothing_found
   pub output1 : on_channel 1 0 (two_blocks ++ two_outputs) ≡ nothing_found
 
 -- the lines of the alias; of a broadcast, each line of the devices stands once
 pub record AddressExamples : Type 0 where
-  pub two_lines : on_address 0x31 two_blocks ≡ record { grade = Wrong; ports = 3; lines = 4 ∷ 9 ∷ [] }
-  pub one_line : on_address 0x31 broadcast ≡ record { grade = Meant; ports = 3; lines = 4 ∷ [] }
+  pub two_lines : on_address 0x31 two_blocks ≡ record { grade = Some Wrong; ports = 3; lines = 4 ∷ 9 ∷ [] }
+  pub one_line : on_address 0x31 broadcast ≡ record { grade = Some Meant; ports = 3; lines = 4 ∷ [] }
   pub one_port_alone : on_address 0x31 one_port ≡ nothing_found
   pub device_lines : address_lines (hub_after broadcast) (state_after broadcast) 0x31 ≡ 2 ∷ 3 ∷ 4 ∷ []
 

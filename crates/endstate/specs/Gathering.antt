@@ -1,6 +1,6 @@
 -- How the source gathers origins one by one: no rule of the papers.
 -- Assumes nothing.
-use Rattle.std.specs.Prelude.{Bool, true, false, cond, not, ◌&&◌, List, [], ◌∷◌, ℕ, eqb, length}
+use Rattle.std.specs.Prelude.{Bool, true, false, cond, not, ◌&&◌, List, [], ◌∷◌, ℕ, eqb, length, Option, None, Some}
 use Rattle.ports.specs.PortMasks.{several_ports}
 use Rattle.endstate.specs.declared.findings.Grade.{Grade}
 use Rattle.endstate.specs.declared.findings.Grade.TheVariants.{Meant, Wrong}
@@ -8,7 +8,6 @@ use Rattle.endstate.specs.declared.findings.Clash.{Clash}
 use Rattle.endstate.specs.declared.gathering.Gathered.{Gathered}
 use Rattle.endstate.specs.RisingLines.{rising_lines, with_line}
 use Rattle.endstate.specs.LineRows.{lines_of, lines_row}
-use Rattle.endstate.specs.Findings.{nothing_found, clash_of}
 
 -- one of the numbers is 0, no line
 unfoldable pub some_unset : List ℕ → Bool
@@ -35,8 +34,8 @@ abbrev pub grade_gathered : Gathered → Bool → Grade
 grade_gathered gathered asked = cond asked Meant (cond (gathered_one gathered) Meant Wrong)
 
 -- what is found of the ports that share something, by what is kept
-unfoldable pub clash_by : ℕ → Gathered → Bool → Clash
+unfoldable pub clash_by : ℕ → Gathered → Bool → Option Clash
 clash_by ports gathered asked =
     cond (several_ports ports)
-    (record { grade = grade_gathered gathered asked; ports = ports; lines = gathered.lines })
-    (clash_of nothing_found)
+    (Some (record { grade = grade_gathered gathered asked; ports = ports; lines = gathered.lines }))
+    None

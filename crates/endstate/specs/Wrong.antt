@@ -1,21 +1,27 @@
 -- How many findings in the state at the end are wrong: `same-channel`, `same-address` and `not-set-up`.
 -- Assumes nothing.
-use Rattle.std.specs.Prelude.{◌≡◌, Bool, true, false, cond, ℕ, zero, suc, ◌+◌}
+use Rattle.std.specs.Prelude.{◌≡◌, Bool, true, false, cond, ℕ, zero, suc, ◌+◌, Option, None, Some}
 use Rattle.formats.specs.declared.Format.{Format}
 use Rattle.formats.specs.declared.Format.TheVariants.{Raw10, Raw12}
 use Rattle.hub.specs.declared.Hub.{Hub}
 use Rattle.origins.specs.declared.RegistersWithOrigins.{RegistersWithOrigins}
 use Rattle.origins.specs.Origins.{FileOfBytes}
 use Rattle.endstate.specs.declared.findings.Grade.{Grade}
-use Rattle.endstate.specs.declared.findings.Grade.TheVariants.{NoFinding, Meant, Wrong}
+use Rattle.endstate.specs.declared.findings.Grade.TheVariants.{Meant, Wrong}
+use Rattle.endstate.specs.declared.findings.Clash.{Clash}
 use Rattle.endstate.specs.Channels.{same_channel}
 use Rattle.endstate.specs.Addresses.{same_address}
 use Rattle.endstate.specs.Unset.{not_set_up, NotSetUp}
 
-abbrev pub is_wrong : Grade → Bool
-is_wrong NoFinding = false
-is_wrong Meant = false
-is_wrong Wrong = true
+-- how it is graded, where there is a finding
+abbrev pub grade_of : Option Clash → Option Grade
+grade_of None = None
+grade_of (Some clash) = Some clash.grade
+
+abbrev pub is_wrong : Option Grade → Bool
+is_wrong None = false
+is_wrong (Some Meant) = false
+is_wrong (Some Wrong) = true
 
 -- how many numbers below n a test holds of
 unfoldable pub count_below : (ℕ → Bool) → ℕ → ℕ
@@ -45,8 +51,8 @@ wrong_count hub state =
 -- nothing is wrong: on no output and channel, at no address and of no port, whatever their numbers
 pub record NothingWrong (hub : Hub) (state : RegistersWithOrigins) : Type 0 where
   pub channels : (format : Format) (output channel : ℕ)
-      → (same_channel hub state format output channel).grade ≡ Wrong → ⊥
-  pub addresses : (address : ℕ) → (same_address hub state address).grade ≡ Wrong → ⊥
+      → (same_channel hub state format output channel).grade ≡ Some Wrong → ⊥
+  pub addresses : (address : ℕ) → (same_address hub state address).grade ≡ Some Wrong → ⊥
   pub ports : (port : ℕ) → NotSetUp hub state port → ⊥
 
 -- The count is 0 exactly where nothing is wrong.

@@ -13,12 +13,11 @@ ghost use Rattle.endstate.specs.Addresses.{devices_origins, alias_origins, heare
 use crate::findings::Clash;
 use crate::gathering::Gathered;
 use crate::lines::Lines;
-use crate::{gathering, grading, lines};
+use crate::{EndState, gathering, grading, lines};
 use clashes::addresses;
-use hub::Hub;
 use origins::RegistersWithOrigins;
 use registers::map;
-use translation::{Devices, PortDevice, Remote, WriteAnswer};
+use translation::{Addressed, Devices, PortDevice, Remote};
 
 // The origin of the register of a port that stands `number` places behind the first of a row; there is none past 0xFF.
 fn origin_in_row(state: RegistersWithOrigins, port: u8, first: u8, number: u8) -> u64
@@ -40,12 +39,9 @@ fn register_origin(
 ) -> u64
     ensures { result ≡ register_origin state device serializer targets }
 {
-    let remote = device.remote;
-    match remote {
-        Remote::Serializer { address: _ } => origins::port_origin(state, device.port, serializer),
-        Remote::Target { number, address: _ } => {
-            origin_in_row(state, device.port, targets, number)
-        }
+    match device.remote {
+        Remote::Serializer { .. } => origins::port_origin(state, device.port, serializer),
+        Remote::Target { number, .. } => origin_in_row(state, device.port, targets, number),
     }
 }
 
@@ -92,30 +88,23 @@ pub fn device_lines(state: RegistersWithOrigins, device: PortDevice) -> Lines
 fn lines_of_devices(state: RegistersWithOrigins, devices: Devices) -> Lines
     ensures { result ≡ lines_row (rising_lines (devices_origins state (devices_of devices))) }
 {
-    let none = lines::no_lines();
-    match devices {
-        Devices::One(a) => with_device(none, state, a),
-        Devices::Two(a, b) => with_device(with_device(none, state, b), state, a),
-        Devices::Three(a, b, c) => {
-            with_device(with_device(with_device(none, state, c), state, b), state, a)
+    let mut lines = lines::no_lines();
+    for k in 0..4usize {
+        if let Some(device) = devices.get(3 - k) {
+            lines = with_device(lines, state, device);
         }
-        Devices::Four(a, b, c, d) => with_device(
-            with_device(with_device(with_device(none, state, d), state, c), state, b),
-            state,
-            a,
-        ),
     }
+    lines
 }
 
 // The lines of an address: those of each device that hears a write to it.
-pub fn address_lines(hub: Hub, state: RegistersWithOrigins, address: u8) -> Lines
-    ensures { result ≡ lines_row (address_lines hub state address) }
+#[tactic(auto, unfolding(crate::specs::Addresses::address_lines, crate::specs::Addresses::devices_origins, crate::specs::RisingLines::rising_lines))]
+pub fn address_lines(end: &EndState, address: u8) -> Lines
+    ensures { result ≡ lines_row (address_lines end.now.hub end.now.state address) }
 {
-    match translation::who_hears_write(hub, address) {
-        WriteAnswer::AddressAbove7F => lines::no_lines(),
-        WriteAnswer::Hub => lines::no_lines(),
-        WriteAnswer::NoDevice => lines::no_lines(),
-        WriteAnswer::Devices(devices) => lines_of_devices(state, devices),
+    match translation::who_hears_write(end.hub, address) {
+        Ok(Addressed::Found(devices)) => lines_of_devices(end.state, devices),
+        _ => lines::no_lines(),
     }
 }
 
@@ -131,38 +120,30 @@ fn with_alias(gathered: Gathered, state: RegistersWithOrigins, device: PortDevic
 fn aliases_of_devices(state: RegistersWithOrigins, devices: Devices) -> Gathered
     ensures { result ≡ gathered_of (alias_origins state (devices_of devices)) }
 {
-    let none = gathering::nothing();
-    match devices {
-        Devices::One(a) => with_alias(none, state, a),
-        Devices::Two(a, b) => with_alias(with_alias(none, state, b), state, a),
-        Devices::Three(a, b, c) => {
-            with_alias(with_alias(with_alias(none, state, c), state, b), state, a)
+    let mut gathered = gathering::nothing();
+    for k in 0..4usize {
+        if let Some(device) = devices.get(3 - k) {
+            gathered = with_alias(gathered, state, device);
         }
-        Devices::Four(a, b, c, d) => with_alias(
-            with_alias(with_alias(with_alias(none, state, d), state, c), state, b),
-            state,
-            a,
-        ),
     }
+    gathered
 }
 
 // The origins of the aliases of the devices that hear a write to an address.
-fn aliases_that_match(hub: Hub, state: RegistersWithOrigins, address: u8) -> Gathered
-    ensures { result ≡ gathered_of (alias_origins state (hearers (who_hears_write hub address))) }
+#[tactic(auto, unfolding(crate::specs::Addresses::alias_origins))]
+fn aliases_that_match(end: &EndState, address: u8) -> Gathered
+    ensures { result ≡ gathered_of (alias_origins end.now.state (hearers (who_hears_write end.now.hub address))) }
 {
-    match translation::who_hears_write(hub, address) {
-        WriteAnswer::AddressAbove7F => gathering::nothing(),
-        WriteAnswer::Hub => gathering::nothing(),
-        WriteAnswer::NoDevice => gathering::nothing(),
-        WriteAnswer::Devices(devices) => aliases_of_devices(state, devices),
+    match translation::who_hears_write(end.hub, address) {
+        Ok(Addressed::Found(devices)) => aliases_of_devices(end.state, devices),
+        _ => gathering::nothing(),
     }
 }
 
 // What is found of an address: the ports that a write to it reaches.
-pub fn same_address(hub: Hub, state: RegistersWithOrigins, address: u8) -> Clash
-    ensures { result ≡ clash_of (same_address hub state address) }
+pub fn same_address(end: &EndState, address: u8) -> Option<Clash>
+    ensures { result ≡ clash_of (same_address end.now.hub end.now.state address) }
 {
-    let ports = addresses::ports_of_address(hub, address);
-    let gathered = aliases_that_match(hub, state, address);
-    grading::shared_by(ports, gathered, false)
+    let ports = addresses::ports_of_address(end.hub, address);
+    grading::shared_by(ports, aliases_that_match(end, address), false)
 }

@@ -10,7 +10,7 @@ ghost use Rattle.endstate.specs.Channels.{sync_forwarding, asks_for_lines, same_
 
 use crate::findings::Clash;
 use crate::gathering::Gathered;
-use crate::{gathering, grading};
+use crate::{EndState, gathering, grading};
 use clashes::channels;
 use formats::Format;
 use hub::Hub;
@@ -69,11 +69,11 @@ fn origins_of_ports(state: RegistersWithOrigins, mask: u8, offset: u8) -> Gather
     ensures { result ≡ gathered_of
         (port_numbers (λ port. bit port mask) (λ port. kept_number state (port_register port offset))) }
 {
-    let none = gathering::nothing();
-    let port_3 = with_port(none, state, mask, 3, offset);
-    let port_2 = with_port(port_3, state, mask, 2, offset);
-    let port_1 = with_port(port_2, state, mask, 1, offset);
-    with_port(port_1, state, mask, 0, offset)
+    let mut gathered = gathering::nothing();
+    for k in 0..4u8 {
+        gathered = with_port(gathered, state, mask, 3 - k, offset);
+    }
+    gathered
 }
 
 // How an output forwards its ports' frames, two bits of FWD_CTL2.
@@ -97,17 +97,10 @@ fn asks_for_lines(hub: Hub, output: u8) -> bool
 }
 
 // What is found of an output and channel, in a format: the forwarded ports that share it.
-pub fn same_channel(
-    hub: Hub,
-    state: RegistersWithOrigins,
-    format: Format,
-    output: u8,
-    channel: u8,
-) -> Clash
-    ensures { result ≡ clash_of (same_channel hub state format output channel) }
+pub fn same_channel(end: &EndState, format: Format, output: u8, channel: u8) -> Option<Clash>
+    ensures { result ≡ clash_of (same_channel end.now.hub end.now.state format output channel) }
 {
-    let ports = channels::ports_on(hub, format, output, channel);
-    let offset = identifier_register(format);
-    let gathered = origins_of_ports(state, ports, offset);
-    grading::shared_by(ports, gathered, asks_for_lines(hub, output))
+    let ports = channels::ports_on(end.hub, format, output, channel);
+    let gathered = origins_of_ports(end.state, ports, identifier_register(format));
+    grading::shared_by(ports, gathered, asks_for_lines(end.hub, output))
 }

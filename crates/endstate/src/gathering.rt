@@ -1,5 +1,5 @@
 // Origins gathered one by one: their lines, and whether all of them are one and the same line.
-ghost use Rattle.std.specs.Prelude.{◌≡◌, cond, true, [], eqb};
+ghost use Rattle.std.specs.Prelude.{◌≡◌, []};
 ghost use Rattle.endstate.specs.Gathering.{gathered_of, with_origin, gathered_one};
 
 use crate::lines;
@@ -22,21 +22,14 @@ pub fn nothing() -> Gathered
     }
 }
 
-// Whether an origin is none, or else `others` is so.
-fn unset_or(number: u64, others: bool) -> bool
-    ensures { result ≡ cond (eqb number 0) true others }
-{
-    if number == 0 { true } else { others }
-}
-
 // Of one origin more.
+#[tactic(auto, unfolding(crate::specs::Gathering::with_origin))]
 pub fn with_origin(gathered: Gathered, number: u64) -> Gathered
     ensures { result ≡ with_origin number gathered }
 {
-    let before = gathered.lines;
     Gathered {
-        lines: lines::with_line(before, number),
-        unset: unset_or(number, gathered.unset),
+        lines: lines::with_line(gathered.lines, number),
+        unset: number == 0 || gathered.unset,
     }
 }
 

@@ -1,83 +1,69 @@
 // How many findings in the state at the end are wrong.
-ghost use Rattle.std.specs.Prelude.{◌≡◌, cond, ◌+◌, ◌<◌, ◌≤◌};
+ghost use Rattle.std.specs.Prelude.{◌≡◌, ◌≤◌};
 ghost use Rattle.endstate.specs.Unset.{not_set_up};
-ghost use Rattle.endstate.specs.Wrong.{is_wrong, count_below, wrong_channels, wrong_address, wrong_count};
+ghost use Rattle.endstate.specs.Wrong.{grade_of, is_wrong, count_below, wrong_channels, wrong_address, wrong_count};
 
 use crate::findings::{Clash, Grade};
-use crate::{addresses, channels, unset};
+use crate::{EndState, addresses, channels, unset};
 use formats::Format;
-use hub::Hub;
-use origins::RegistersWithOrigins;
 
 // Whether the ports share something, and that is wrong.
-pub fn is_wrong(clash: Clash) -> bool
-    ensures { result ≡ is_wrong clash.grade }
+pub fn is_wrong(found: Option<Clash>) -> bool
+    ensures { result ≡ is_wrong (grade_of found) }
 {
-    let grade = clash.grade;
-    match grade {
-        Grade::NoFinding => false,
-        Grade::Meant => false,
-        Grade::Wrong => true,
+    match found {
+        Some(clash) => matches!(clash.grade, Grade::Wrong),
+        None => false,
     }
 }
 
-// One more, where it is counted.
-fn one_more_if(count: u64, is_counted: bool) -> u64
-    requires { count < 128 }
-    ensures { result ≡ cond is_counted (count + 1) count }
-{
-    if is_counted { count + 1 } else { count }
-}
-
 // The channels of an output that ports share, where that is wrong.
-fn wrong_channels(hub: Hub, state: RegistersWithOrigins, format: Format, output: u8) -> u64
-    ensures { (result ≡ wrong_channels hub state format output) × (result ≤ 4) }
+fn wrong_channels(end: &EndState, format: Format, output: u8) -> u64
+    ensures { (result ≡ wrong_channels end.now.hub end.now.state format output) × (result ≤ 4) }
 {
     let mut count: u64 = 0;
-    let mut channel: u8 = 0;
-    while channel < 4 {
-        let clash = channels::same_channel(hub, state, format, output, channel);
-        count = one_more_if(count, is_wrong(clash));
-        channel += 1;
+    for channel in 0..4u8 {
+        if is_wrong(channels::same_channel(end, format, output, channel)) {
+            count += 1;
+        }
     }
     count
 }
 
 // The addresses that reach several ports, where that is wrong.
-fn wrong_addresses(hub: Hub, state: RegistersWithOrigins) -> u64
-    ensures { (result ≡ count_below (wrong_address hub state) 128) × (result ≤ 128) }
+fn wrong_addresses(end: &EndState) -> u64
+    ensures { (result ≡ count_below (wrong_address end.now.hub end.now.state) 128) × (result ≤ 128) }
 {
     let mut count: u64 = 0;
-    let mut address: u8 = 0;
-    while address < 128 {
-        let clash = addresses::same_address(hub, state, address);
-        count = one_more_if(count, is_wrong(clash));
-        address += 1;
+    for address in 0..128u8 {
+        if is_wrong(addresses::same_address(end, address)) {
+            count += 1;
+        }
     }
     count
 }
 
 // The ports that are forwarded and were not set up.
-fn unset_ports(hub: Hub, state: RegistersWithOrigins) -> u64
-    ensures { (result ≡ count_below (not_set_up hub state) 4) × (result ≤ 4) }
+fn unset_ports(end: &EndState) -> u64
+    ensures { (result ≡ count_below (not_set_up end.now.hub end.now.state) 4) × (result ≤ 4) }
 {
     let mut count: u64 = 0;
-    let mut port: u8 = 0;
-    while port < 4 {
-        count = one_more_if(count, unset::not_set_up(hub, state, port));
-        port += 1;
+    for port in 0..4u8 {
+        if unset::not_set_up(end, port) {
+            count += 1;
+        }
     }
     count
 }
 
 // All of them.
-pub fn count(hub: Hub, state: RegistersWithOrigins) -> u64
-    ensures { result ≡ wrong_count hub state }
+pub fn count(end: &EndState) -> u64
+    ensures { result ≡ wrong_count end.now.hub end.now.state }
 {
-    wrong_channels(hub, state, Format::Raw10, 0)
-        + wrong_channels(hub, state, Format::Raw10, 1)
-        + wrong_channels(hub, state, Format::Raw12, 0)
-        + wrong_channels(hub, state, Format::Raw12, 1)
-        + wrong_addresses(hub, state)
-        + unset_ports(hub, state)
+    wrong_channels(end, Format::Raw10, 0)
+        + wrong_channels(end, Format::Raw10, 1)
+        + wrong_channels(end, Format::Raw12, 0)
+        + wrong_channels(end, Format::Raw12, 1)
+        + wrong_addresses(end)
+        + unset_ports(end)
 }

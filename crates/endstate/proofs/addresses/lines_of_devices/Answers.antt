@@ -1,44 +1,24 @@
--- `endstate::addresses::lines_of_devices` meets its contract, by the number of devices.
-use mathlib.Core.Path.{sym, ap, ◌∙◌}
-use mathlib.Core.List.{[], ◌∷◌}
-use Rattle.translation.specs.declared.Devices.{Devices}
+-- `endstate::addresses::lines_of_devices` meets its contract.
+use Rattle.std.proofs.Common.{sym, ◌∙◌, ◌+◌, ◌-◌, arith}
 use Rattle.translation.specs.Translation.{devices_of}
-use Rattle.endstate.specs.RisingLines.{rising_lines}
-use Rattle.endstate.specs.LineRows.{lines_row}
-use Rattle.endstate.specs.Addresses.{devices_origins}
-use Rattle.endstate.proofs.AddressLaws.{no_device_lem, one_device}
+use Rattle.clashes.proofs.AddressLaws.{device_at, none_at}
+use Rattle.endstate.proofs.AddressLaws.{lines_start, one_device}
 use Rattle.endstate.proofs.addresses.lines_of_devices.Goals as goal
+use Rattle.endstate.proofs.addresses.lines_of_devices.Goals.{in-Some, in_default}
 
-pub returns-in-One : goal.returns-in-One
-returns-in-One c =
-    let s = c.args.state in
-    let e0 = no_device_lem s c.no_lines-none.ensures in
-    one_device s c.in-One.a ([]) e0 c.with_device.ensures
-    ∙ sym (ap (λ (d : Devices). lines_row (rising_lines (devices_origins s (devices_of d)))) c.in-One.is)
+pub loop-k-init : goal.loop-k-init
+loop-k-init c = lines_start c.args.state c.args.devices c.no_lines-lines.ensures
 
-pub returns-in-Two : goal.returns-in-Two
-returns-in-Two c =
-    let s = c.args.state in
-    let e0 = no_device_lem s c.no_lines-none.ensures in
-    let e1 = one_device s c.in-Two.b ([]) e0 c.with_device-in-Two.ensures in
-    one_device s c.in-Two.a (c.in-Two.b ∷ []) e1 c.with_device-in-Two-2.ensures
-    ∙ sym (ap (λ (d : Devices). lines_row (rising_lines (devices_origins s (devices_of d)))) c.in-Two.is)
-
-pub returns-in-Three : goal.returns-in-Three
-returns-in-Three c =
-    let s = c.args.state in
-    let e0 = no_device_lem s c.no_lines-none.ensures in
-    let e1 = one_device s c.in-Three.c ([]) e0 c.with_device-in-Three.ensures in
-    let e2 = one_device s c.in-Three.b (c.in-Three.c ∷ []) e1 c.with_device-in-Three-2.ensures in
-    one_device s c.in-Three.a (c.in-Three.b ∷ c.in-Three.c ∷ []) e2 c.with_device-in-Three-3.ensures
-    ∙ sym (ap (λ (d : Devices). lines_row (rising_lines (devices_origins s (devices_of d)))) c.in-Three.is)
-
-pub returns-in-Four : goal.returns-in-Four
-returns-in-Four c =
-    let s = c.args.state in
-    let e0 = no_device_lem s c.no_lines-none.ensures in
-    let e1 = one_device s c.in-Four.d ([]) e0 c.with_device-in-Four.ensures in
-    let e2 = one_device s c.in-Four.c (c.in-Four.d ∷ []) e1 c.with_device-in-Four-2.ensures in
-    let e3 = one_device s c.in-Four.b (c.in-Four.c ∷ c.in-Four.d ∷ []) e2 c.with_device-in-Four-3.ensures in
-    one_device s c.in-Four.a (c.in-Four.b ∷ c.in-Four.c ∷ c.in-Four.d ∷ []) e3 c.with_device-in-Four-4.ensures
-    ∙ sym (ap (λ (d : Devices). lines_row (rising_lines (devices_origins s (devices_of d)))) c.in-Four.is)
+pub loop-k-preserved : goal.loop-k-preserved
+loop-k-preserved c =
+    let l = c.loop-k in
+    let devices = devices_of c.args.devices in
+    elim c.match-get.branch [
+      | in-Some w ↦
+          rw (device_at devices (3 - l.k) (4 - (l.k + 1)) (4 - l.k) (omega arith) (omega arith) _ (sym w.in-Some.ensures))
+          (w.lines-is ∙ one_device c.args.state _ _ l.invariant w.with_device-lines.ensures)
+      | in_default w ↦
+          rw (none_at devices (3 - l.k) (4 - (l.k + 1)) (4 - l.k) (omega arith) (omega arith)
+          (sym c.get.ensures ∙ w.in_default.is))
+          (w.lines-is ∙ l.invariant)
+    ]

@@ -5,6 +5,6 @@ use Rattle.endstate.proofs.channels.same_channel.Goals as goal
 pub returns : goal.returns
 returns c =
     let a = c.args in
-    channel_by a.hub a.state a.format a.output a.channel c.ports_on-ports.ensures
-    c.identifier_register-offset.ensures c.origins_of_ports-gathered.ensures
+    channel_by a.end.now.hub a.end.now.state a.format a.output a.channel c.ports_on-ports.ensures
+    c.identifier_register.ensures c.origins_of_ports-gathered.ensures
     c.asks_for_lines.ensures c.shared_by.ensures

@@ -6,7 +6,7 @@ use Rattle.endstate.specs.Unset.{other_reached, another_reached}
 use Rattle.endstate.proofs.unset.another_reached.Goals as goal
 
 pub loop-other-init : goal.loop-other-init
-loop-other-init c = (omega arith, any_none _)
+loop-other-init c = any_none _
 
 pub returns-then-other_reached : goal.returns-then-other_reached
 unfolding another_reached
@@ -19,15 +19,13 @@ returns-then-other_reached c =
 pub loop-other-preserved : goal.loop-other-preserved
 loop-other-preserved c =
     let l = c.loop-other in
-    let a = c.args in (
-      omega arith,
-      any-more (other_reached a.state a.port) l.other l.invariant.1
-          (sym c.other_reached.ensures ∙ c.if-other_reached.false),
-    )
+    let a = c.args in
+    any-more (other_reached a.state a.port) l.other l.invariant
+    (sym c.other_reached.ensures ∙ c.if-other_reached.false)
 
 pub returns : goal.returns
 unfolding another_reached
 returns c =
     let l = c.loop-other in
     let all : l.other ≡ 4 = omega arith in
-    sym (rw all at l.invariant.1)
+    sym (rw all at l.invariant)

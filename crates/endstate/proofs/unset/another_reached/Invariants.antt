@@ -1,12 +1,8 @@
-use mathlib.Core.Path.{◌≡◌}
-use mathlib.Core.Bool.{false}
-use Prim.Native.Nat.{◌-◌, ◌≤◌}
+-- `endstate::unset::another_reached` meets its contract. The loop's invariant: none so far is another port that was reached.
+use Rattle.std.proofs.Common.{◌≡◌, false}
 use Rattle.clashes.specs.Addresses.{any_below}
 use Rattle.endstate.specs.Unset.{other_reached}
 use Rattle.endstate.proofs.unset.another_reached.Given as goal
 
 abbrev pub invariant-loop-other : goal.invariant-loop-other
-invariant-loop-other l = (l.other ≤ 4) × (any_below (other_reached l.state l.port) l.other ≡ false)
-
-abbrev pub decreases-loop-other : goal.decreases-loop-other
-decreases-loop-other l = 4 - l.other
+invariant-loop-other l = any_below (other_reached l.fn.state l.fn.port) l.other ≡ false

@@ -7,7 +7,7 @@ use Rattle.endstate.proofs.UnsetLaws.{has_origin_lem, no_origin}
 use Rattle.endstate.proofs.unset.was_reached.Goals as goal
 
 pub loop-offset-init : goal.loop-offset-init
-loop-offset-init c = (omega arith, any_none _)
+loop-offset-init c = any_none _
 
 pub returns-then-port_origin-ne0 : goal.returns-then-port_origin-ne0
 unfolding was_reached
@@ -20,15 +20,13 @@ returns-then-port_origin-ne0 c =
 pub loop-offset-preserved : goal.loop-offset-preserved
 loop-offset-preserved c =
     let l = c.loop-offset in
-    let a = c.args in (
-      omega arith,
-      any-more (has_origin a.state a.port) l.offset l.invariant.1
-          (no_origin a.state a.port l.offset c.port_origin.ensures c.if-port_origin-ne0.false),
-    )
+    let a = c.args in
+    any-more (has_origin a.state a.port) l.offset l.invariant
+    (no_origin a.state a.port l.offset c.port_origin.ensures c.if-port_origin-ne0.false)
 
 pub returns : goal.returns
 unfolding was_reached
 returns c =
     let l = c.loop-offset in
     let all : l.offset ≡ 256 = omega arith in
-    sym (rw all at l.invariant.1)
+    sym (rw all at l.invariant)

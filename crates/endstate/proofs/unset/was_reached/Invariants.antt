@@ -1,12 +1,8 @@
-use mathlib.Core.Path.{◌≡◌}
-use mathlib.Core.Bool.{false}
-use Prim.Native.Nat.{◌-◌, ◌≤◌}
+-- `endstate::unset::was_reached` meets its contract. The loop's invariant: no register so far has an origin.
+use Rattle.std.proofs.Common.{◌≡◌, false}
 use Rattle.clashes.specs.Addresses.{any_below}
 use Rattle.endstate.specs.Unset.{has_origin}
 use Rattle.endstate.proofs.unset.was_reached.Given as goal
 
 abbrev pub invariant-loop-offset : goal.invariant-loop-offset
-invariant-loop-offset l = (l.offset ≤ 256) × (any_below (has_origin l.state l.port) l.offset ≡ false)
-
-abbrev pub decreases-loop-offset : goal.decreases-loop-offset
-decreases-loop-offset l = 256 - l.offset
+invariant-loop-offset l = any_below (has_origin l.fn.state l.fn.port) l.offset ≡ false
