@@ -13,8 +13,10 @@ use Rattle.trace.proofs.RecordLaws.{longest_record_lem}
 use Rattle.trace.proofs.WindowLaws.{shows}
 use Rattle.listing.specs.Listing.{calls_text, longest_text}
 use Rattle.listing.proofs.TraceLaws.{none_left_lem, empty_trace}
+use Rattle.streams.specs.Streams.{number_or_0}
+use Rattle.listing.specs.Refusals.{text_refusal_number}
 use Rattle.tracetext.specs.declared.TextRun.{TextRun}
-use Rattle.tracetext.specs.TextWindows.{text_refusal_number, is_text_refusal, new_text_run, is_first_record, ListState, list_state_at, may_list_next, may_list}
+use Rattle.tracetext.specs.TextWindows.{is_text_refusal, new_text_run, is_first_record, ListState, list_state_at, may_list_next, may_list}
 use Rattle.tracetext.specs.TextFiles.{window_listed, listing, end_refusal, refused_or, TextHoweverCut}
 use Rattle.tracetext.proofs.RecordLaws.{to_come, text_then, Known, todo_most}
 use Rattle.tracetext.proofs.WindowLaws.{windows_list, left_most, none_listed, to_do_less}
@@ -89,7 +91,7 @@ by_windows =
 
 -- the text that was put out before the end
 text_end : (put : List ℕ) (run : TextRun) → text_then put (end_reply run) ≡ refused_or (end_refusal run) (given put)
-text_end put run = go (is_text_refusal (end_refusal run)) (text_refusal_number (end_refusal run))
+text_end put run = go (is_text_refusal (end_refusal run)) (number_or_0 text_refusal_number (end_refusal run))
   where
     go : (b : Bool) (number : ℕ) → text_then put (cond b (refused number) (given [])) ≡ cond b (refused number) (given put)
     go true number = refl

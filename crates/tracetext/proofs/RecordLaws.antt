@@ -16,7 +16,8 @@ use Rattle.listing.specs.Listing.{calls_text, record_calls, followed_by, left_ca
 use Rattle.listing.proofs.TextLaws.{texts_join}
 use Rattle.listing.proofs.RecordLaws.{CallsOf, no_record, address_out_of_range, no_text_form, of_values, calls_of_lem, text_most}
 use Rattle.listing.proofs.TraceLaws.{records_join}
-use Rattle.tracetext.specs.declared.TextRefusal.{TextRefusal}
+use Rattle.std.specs.Prelude.{Option, Some}
+use Rattle.listing.specs.declared.TextRefusal.{TextRefusal}
 use Rattle.tracetext.specs.declared.TextRun.{TextRun}
 use Rattle.tracetext.specs.TextWindows.{is_text_refusal, is_first_record, next_calls, ListState, may_list_next, may_list, list_calls, list_one}
 use Rattle.tracetext.specs.TextFiles.{refused_or}
@@ -118,7 +119,7 @@ module _ (last : Bool) (state : ListState) (may : may_list last state ≡ true) 
         rw tests.0 (ap (on_reply calls_text) (rw (same.found, same.after) at (records_join first (left ++ rest) some_more)))
 
     -- a refusal: nothing is put
-    refused_next : (refusal : TextRefusal) → to_come state.run (left ++ rest) ≡ refused_or refusal (given [])
+    refused_next : (refusal : Option TextRefusal) → to_come state.run (left ++ rest) ≡ refused_or refusal (given [])
         → is_text_refusal refusal ≡ true
         → ListsNext rest state (record { run = record { records = state.run.records; refusal = refusal }; left = left; out = state.out; at = state.at })
     refused_next new e wrong =
@@ -158,7 +159,7 @@ module _ (last : Bool) (state : ListState) (may : may_list last state ≡ true) 
         go : {reply : Reply (List RegisterWrite)} → CallsOf (left ++ rest) reply → record_calls (record_of first (left ++ rest)) ≡ reply
             → to_come state.run (left ++ rest) ≡ on_reply calls_text (followed_by reply (left_calls false later))
             → ListsNext rest state (list_calls state reply)
-        go no_record found e = refused_next TextRefusal.NoRecord e refl
-        go address_out_of_range found e = refused_next TextRefusal.AddressOutOfRange e refl
-        go no_text_form found e = refused_next TextRefusal.NoTextForm e refl
+        go no_record found e = refused_next (Some TextRefusal.NoRecord) e refl
+        go address_out_of_range found e = refused_next (Some TextRefusal.AddressOutOfRange) e refl
+        go no_text_form found e = refused_next (Some TextRefusal.NoTextForm) e refl
         go (of_values calls few) found e = given_next calls found e

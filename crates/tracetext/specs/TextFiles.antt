@@ -1,20 +1,21 @@
 -- A trace as its text, turn by turn: however the bytes of the trace are read, the work ends, and its text is that of
 -- the trace, or it is refused as the trace is.
 -- Assumes nothing.
-use Rattle.std.specs.Prelude.{◌≡◌, ℕ, ◌+◌, ◌*◌, ◌^◌, ◌<◌, ◌≤◌, Bool, true, cond, List, length, take}
+use Rattle.std.specs.Prelude.{◌≡◌, ℕ, ◌+◌, ◌*◌, ◌^◌, ◌<◌, ◌≤◌, Bool, true, cond, Option, Some, None, List, length, take}
 use Rattle.laws.specs.Reply.{Reply, refused, given, on_reply}
 use Rattle.laws.specs.Buffers.{written}
 use Rattle.laws.specs.Elements.{AreBytes}
-use Rattle.streams.specs.Streams.{new_window, after_read, nothing_left, Work, Way, way_from, TurnInput, all_turns, AllLend}
+use Rattle.streams.specs.Streams.{new_window, after_read, nothing_left, Work, Way, way_from, TurnInput, all_turns, AllLend, number_or_0}
 use Rattle.streams.specs.Streams.{StandsAt, ReadGave, IsNextTurn}
 use Rattle.trace.specs.Framing.{longest_record}
 use Rattle.listing.specs.Listing.{calls_text, trace_calls, longest_text}
-use Rattle.tracetext.specs.declared.TextRefusal.{TextRefusal}
-use Rattle.tracetext.specs.declared.TextRefusal.TheVariants.{NoRefusal, NoRecord}
+use Rattle.listing.specs.declared.TextRefusal.{TextRefusal}
+use Rattle.listing.specs.declared.TextRefusal.TheVariants.{NoRecord}
+use Rattle.listing.specs.Refusals.{text_refusal_number}
 use Rattle.tracetext.specs.declared.TextRun.{TextRun}
 use Rattle.tracetext.specs.declared.TextFile.{TextFile}
 use Rattle.tracetext.specs.declared.TextTurn.{TextTurn}
-use Rattle.tracetext.specs.TextWindows.{text_refusal_number, is_text_refusal, new_text_run, is_first_record}
+use Rattle.tracetext.specs.TextWindows.{is_text_refusal, new_text_run, is_first_record}
 use Rattle.tracetext.specs.TextWindows.{ListState, list_state_at, list_window}
 
 abbrev pub new_text_file : TextFile
@@ -66,12 +67,12 @@ TextTurnIsNext =
     result.file.run result.file.window buffer_after (take result.end outAfter) result.done
 
 -- the refusal at a trace's end; "13 (an empty trace too)": it has no first record
-unfoldable pub end_refusal : TextRun → TextRefusal
-end_refusal run = cond (is_text_refusal run.refusal) run.refusal (cond (is_first_record run) NoRecord NoRefusal)
+unfoldable pub end_refusal : TextRun → Option TextRefusal
+end_refusal run = cond (is_text_refusal run.refusal) run.refusal (cond (is_first_record run) (Some NoRecord) None)
 
 -- a refusal by its number or, where there is none, the reply
-abbrev pub refused_or : TextRefusal → Reply (List ℕ) → Reply (List ℕ)
-refused_or refusal reply = cond (is_text_refusal refusal) (refused (text_refusal_number refusal)) reply
+abbrev pub refused_or : Option TextRefusal → Reply (List ℕ) → Reply (List ℕ)
+refused_or refusal reply = cond (is_text_refusal refusal) (refused (number_or_0 text_refusal_number refusal)) reply
 
 -- the work on a whole trace, to its end: the text that was put out, or the refusal, is that of the trace
 pub record ListsTrace (trace : List ℕ) (end : Way TextRun) : Type 0 where

@@ -1,37 +1,26 @@
 -- How the source puts the texts of a window's records one after the other: L1, for a trace of any size.
 -- Assumes nothing.
-use Rattle.std.specs.Prelude.{◌≡◌, ℕ, zero, suc, ◌+◌, ◌%◌, ◌^◌, ◌≤◌, Bool, cond, not, ◌&&◌, List, length, drop, ◌==◌}
+use Rattle.std.specs.Prelude.{◌≡◌, ℕ, zero, suc, ◌+◌, ◌%◌, ◌^◌, ◌≤◌, Bool, cond, not, ◌&&◌, Option, Some, None, is_some, List, length, drop, ◌==◌}
 use Rattle.laws.specs.Reply.{Reply, refused_with, given}
 use Rattle.laws.specs.Buffers.{written, has_room}
 use Rattle.registers.specs.Bursts.{RegisterWrite}
 use Rattle.trace.specs.Framing.{record_length, holds_record}
 use Rattle.trace.specs.Records.{record_of}
 use Rattle.listing.specs.Listing.{calls_text, record_calls, longest_text}
-use Rattle.tracetext.specs.declared.TextRefusal.{TextRefusal}
-use Rattle.tracetext.specs.declared.TextRefusal.TheVariants.{NoRefusal, NoRecord, AddressOutOfRange, NoTextForm}
+use Rattle.listing.specs.declared.TextRefusal.{TextRefusal}
+use Rattle.listing.specs.declared.TextRefusal.TheVariants.{NoRecord, AddressOutOfRange, NoTextForm}
 use Rattle.tracetext.specs.declared.TextRun.{TextRun}
 use Rattle.tracetext.specs.declared.TextListed.{TextListed}
 
--- the paper's number for each refusal, and 0 for none
-abbrev pub text_refusal_number : TextRefusal → ℕ
-text_refusal_number NoRefusal = 0
-text_refusal_number NoRecord = 13
-text_refusal_number AddressOutOfRange = 2
-text_refusal_number NoTextForm = 16
-
-abbrev pub is_text_refusal : TextRefusal → Bool
-is_text_refusal refusal = not (text_refusal_number refusal == 0)
+abbrev pub is_text_refusal : Option TextRefusal → Bool
+is_text_refusal refusal = is_some refusal
 
 -- the refusal with that number; for a record there are these three
 abbrev pub refusal_of : ℕ → TextRefusal
 refusal_of number = cond (number == 13) NoRecord (cond (number == 2) AddressOutOfRange NoTextForm)
 
-abbrev pub refusal_in : Reply ℕ → TextRefusal
-refusal_in (refused_with number detail) = refusal_of number
-refusal_in (given count) = NoRefusal
-
 abbrev pub new_text_run : TextRun
-new_text_run = record { records = 0; refusal = NoRefusal }
+new_text_run = record { records = 0; refusal = None }
 
 -- the number of the record after those that were passed (there are fewer than 2 ^ 64)
 abbrev pub refused_record : TextRun → ℕ
@@ -73,14 +62,14 @@ may_list last state = may_list_next state.run state.left last (length state.out)
 abbrev pub list_calls : ListState → Reply (List RegisterWrite) → ListState
 list_calls state (refused_with number detail) =
     record {
-      run = record { records = state.run.records; refusal = refusal_of number };
+      run = record { records = state.run.records; refusal = Some (refusal_of number) };
       left = state.left;
       out = state.out;
       at = state.at;
     }
 list_calls state (given calls) =
     record {
-      run = record { records = (state.run.records + 1) % 2 ^ 64; refusal = NoRefusal };
+      run = record { records = (state.run.records + 1) % 2 ^ 64; refusal = None };
       left = drop (record_length state.left) state.left;
       out = written state.out state.at (calls_text calls);
       at = state.at + length (calls_text calls);

@@ -3,29 +3,19 @@
 #![tactic(auto)]
 
 ghost use Rattle.std.specs.Prelude.{◌≡◌};
-ghost use Rattle.tracetext.specs.TextWindows.{text_refusal_number, refused_record, is_text_refusal};
-ghost use Rattle.tracetext.specs.TextWindows.{new_text_run, list_state_at, ListsWindow};
+ghost use Rattle.tracetext.specs.TextWindows.{refused_record, new_text_run, list_state_at, ListsWindow};
 ghost use Rattle.tracetext.specs.TextFiles.{new_text_file, end_refusal, MakesTextTurn};
 
-use std::num::wrapping_add_u64;
+use listing::TextRefusal;
 use streams::Window;
 
 mod record;
-
-// Why a trace has no text, if it has none.
-#[derive(Clone, Copy)]
-pub enum TextRefusal {
-    NoRefusal,
-    NoRecord,
-    AddressOutOfRange,
-    NoTextForm,
-}
 
 // Between two records: how many were passed, and why the next one has no text, if it is refused.
 #[derive(Clone, Copy)]
 pub struct TextRun {
     pub records: u64,
-    pub refusal: TextRefusal,
+    pub refusal: Option<TextRefusal>,
 }
 
 // What came of a window: the run after it, how many bytes of the window were passed, and the next free place for text.
@@ -52,29 +42,11 @@ pub struct TextTurn {
     pub done: bool,
 }
 
-// The paper's number of a refusal, and 0 for none.
-pub fn refusal_number(refusal: TextRefusal) -> u8
-    ensures { result ≡ text_refusal_number refusal }
-{
-    match refusal {
-        TextRefusal::NoRefusal => 0,
-        TextRefusal::NoRecord => 13,
-        TextRefusal::AddressOutOfRange => 2,
-        TextRefusal::NoTextForm => 16,
-    }
-}
-
 // The number of the record that is refused; records are counted from 1.
 pub fn refused_record(run: TextRun) -> u64
     ensures { result ≡ refused_record run }
 {
-    wrapping_add_u64(run.records, 1)
-}
-
-pub(crate) fn is_text_refusal(refusal: TextRefusal) -> bool
-    ensures { result ≡ is_text_refusal refusal }
-{
-    refusal_number(refusal) != 0
+    run.records.wrapping_add(1)
 }
 
 // The run before the first record.
@@ -83,22 +55,21 @@ pub fn new_run() -> TextRun
 {
     TextRun {
         records: 0,
-        refusal: TextRefusal::NoRefusal,
+        refusal: None,
     }
 }
 
 // Why a trace that ends after this run has no text, if it has none: a trace with no record is refused too.
-pub fn end_refusal(run: TextRun) -> TextRefusal
+pub fn end_refusal(run: TextRun) -> Option<TextRefusal>
     ensures { result ≡ end_refusal run }
 {
-    let refusal = run.refusal;
-    if is_text_refusal(refusal) {
-        return refusal;
+    if run.refusal.is_some() {
+        return run.refusal;
     }
     if run.records == 0 {
-        return TextRefusal::NoRecord;
+        return Some(TextRefusal::NoRecord);
     }
-    TextRefusal::NoRefusal
+    None
 }
 
 // Puts the texts of the records of a window one after the other from the place on, as far as the records are whole and
@@ -141,21 +112,17 @@ pub fn turn(file: TextFile, got: usize, buffer: &mut [u8], out: &mut [u8]) -> Te
     ensures { MakesTextTurn file got buffer.old out.old
         result buffer.new out.new }
 {
-    let run = file.run;
-    let before = file.window;
-    let window = streams::after_read(before, got, buffer.len());
-    let held = window.held;
+    let window = streams::after_read(file.window, got, buffer.len());
     let last = window.last;
-    let taken = text_window(run, &buffer[..held], last, out, 0);
-    let after = taken.run;
-    let refusal = after.refusal;
-    let left = streams::slide(buffer, taken.used, held);
+    let taken = text_window(file.run, &buffer[..window.held], last, out, 0);
+    let run = taken.run;
+    let held = streams::slide(buffer, taken.used, window.held);
     TextTurn {
         file: TextFile {
-            run: after,
-            window: Window { held: left, last },
+            run,
+            window: Window { held, last },
         },
         end: taken.next,
-        done: streams::nothing_left(is_text_refusal(refusal), last, left),
+        done: streams::nothing_left(run.refusal.is_some(), last, held),
     }
 }

@@ -1,11 +1,11 @@
 // The next record of a window: whether there is one, and its text.
 ghost use Rattle.std.specs.Prelude.{◌≡◌, ◌+◌, ◌≤◌, length};
-ghost use Rattle.listing.specs.Listing.{longest_text, listing_reply};
-ghost use Rattle.tracetext.specs.TextWindows.{refusal_in, may_list_next, list_state_at, ListsOne};
+ghost use Rattle.listing.specs.Refusals.{listing_refusal_number};
+ghost use Rattle.listing.specs.Listing.{longest_text};
+ghost use Rattle.tracetext.specs.TextWindows.{refusal_of, may_list_next, list_state_at, ListsOne};
 
-use crate::{TextListed, TextRefusal, TextRun};
-use listing::ListingAnswer;
-use std::num::wrapping_add_u64;
+use crate::{TextListed, TextRun};
+use listing::{ListingRefusal, TextRefusal};
 
 // The bytes that have to be free for the text of a record: no record has more.
 const LONGEST_TEXT: usize = 5080;
@@ -13,8 +13,7 @@ const LONGEST_TEXT: usize = 5080;
 pub(crate) fn may_list(run: TextRun, left: &[u8], last: bool, size: usize, at: usize) -> bool
     ensures { result ≡ may_list_next run left.now last size at }
 {
-    let refusal = run.refusal;
-    if crate::is_text_refusal(refusal) {
+    if run.refusal.is_some() {
         return false;
     }
     if !buffers::has_room(size, at, LONGEST_TEXT) {
@@ -26,16 +25,13 @@ pub(crate) fn may_list(run: TextRun, left: &[u8], last: bool, size: usize, at: u
     trace::holds_record(left)
 }
 
-// Why a record has no text, by the answer.
-fn refusal_in(answer: ListingAnswer) -> TextRefusal
-    ensures { result ≡ refusal_in (listing_reply answer) }
+// Why a record has no text. (That it has no room does not come: the longest text has room.)
+fn refusal_in(refusal: ListingRefusal) -> TextRefusal
+    ensures { result ≡ refusal_of (listing_refusal_number refusal) }
 {
-    match answer {
-        ListingAnswer::NoRecord => TextRefusal::NoRecord,
-        ListingAnswer::AddressOutOfRange => TextRefusal::AddressOutOfRange,
-        ListingAnswer::NoTextForm => TextRefusal::NoTextForm,
-        ListingAnswer::NoRoom => TextRefusal::NoTextForm,
-        ListingAnswer::Text(_) => TextRefusal::NoRefusal,
+    match refusal {
+        ListingRefusal::Text(text) => text,
+        ListingRefusal::NoRoom => TextRefusal::NoTextForm,
     }
 }
 
@@ -45,23 +41,22 @@ pub(crate) fn list_one(run: TextRun, left: &[u8], out: &mut [u8], at: usize) -> 
     ensures { ListsOne
         (list_state_at run left.now out.old at) result out.new }
 {
-    let answer = listing::record_text(left, run.records == 0, out, at);
-    let ListingAnswer::Text(bytes) = answer else {
-        return TextListed {
+    match listing::record_text(left, run.records == 0, out, at) {
+        Err(refusal) => TextListed {
             run: TextRun {
                 records: run.records,
-                refusal: refusal_in(answer),
+                refusal: Some(refusal_in(refusal)),
             },
             used: 0,
             next: at,
-        };
-    };
-    TextListed {
-        run: TextRun {
-            records: wrapping_add_u64(run.records, 1),
-            refusal: TextRefusal::NoRefusal,
         },
-        used: trace::record_length(left),
-        next: at + bytes,
+        Ok(bytes) => TextListed {
+            run: TextRun {
+                records: run.records.wrapping_add(1),
+                refusal: None,
+            },
+            used: trace::record_length(left),
+            next: at + bytes,
+        },
     }
 }

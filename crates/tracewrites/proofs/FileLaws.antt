@@ -8,6 +8,7 @@ use native.Mathlib.Omega.{arith}
 use borrow.Author.Tests.{le-leb, ne_eqb, not-true}
 use lib.Dec.{eqb}
 use lib.ListN.{length, drop, length-drop, get_or-append}
+use Rattle.std.specs.Prelude.{Option, Some}
 use Rattle.laws.specs.Reply.{Reply}
 use Rattle.laws.proofs.Absurd.{zero_not_one}
 use Rattle.laws.proofs.Bools.{both}
@@ -29,7 +30,7 @@ abbrev writes_result : Result WritesRun (Reply TraceWrites)
 writes_result = record { to_come = to_come; after = λ put reply. reply; end = λ run. to_come run [] }
 
 -- the run with that refusal
-abbrev refusing : WritesRun → TraceRefusal → WritesRun
+abbrev refusing : WritesRun → Option TraceRefusal → WritesRun
 refusing run refusal = record { records = run.records; refusal = refusal; found = run.found }
 
 -- a record was passed, or the trace is refused
@@ -62,12 +63,12 @@ module _ (last : Bool) (run : WritesRun) (bytes lent : List ℕ) where
   abbrev is_empty : Bool
   is_empty = not (is_trace_refusal run.refusal) && eqb run.records 0 && nothing_left false last (length bytes)
 
-  by_empty : (P : TraceRefusal → Type 0) → (is_empty ≡ true → P TraceRefusal.EmptyTrace) → (is_empty ≡ false → P run.refusal)
+  by_empty : (P : Option TraceRefusal → Type 0) → (is_empty ≡ true → P (Some TraceRefusal.EmptyTrace)) → (is_empty ≡ false → P run.refusal)
       → P (refusal_then run.records run.refusal (length bytes) last)
   unfolding refusal_then
   by_empty P empty stays = go is_empty refl
     where
-      go : (b : Bool) → is_empty ≡ b → P (cond b TraceRefusal.EmptyTrace run.refusal)
+      go : (b : Bool) → is_empty ≡ b → P (cond b (Some TraceRefusal.EmptyTrace) run.refusal)
       go true e = empty e
       go false e = stays e
 

@@ -10,6 +10,8 @@ use borrow.Author.Tests.{ne_eqb}
 use lib.Dec.{eqb}
 use lib.ListN.{length, get_or, drop, length-append}
 use lib.Seq.{take-append_seam}
+use Rattle.std.specs.Prelude.{Option, Some, None}
+use Rattle.streams.specs.Streams.{number_or_0}
 use Rattle.laws.specs.Reply.{Reply, refused, refused_with, refused_at, given, and_then}
 use Rattle.laws.specs.Elements.{AreBytes}
 use Rattle.laws.proofs.Buffers.{read_written}
@@ -36,7 +38,7 @@ and_false false = refl
 -- the reply that is still to come, with those bytes of the trace left
 abbrev pub to_come : WritesRun → List ℕ → Reply TraceWrites
 to_come run left =
-    cond (is_trace_refusal run.refusal) (refused_at (trace_refusal_number run.refusal) (refused_number run.refusal run.records))
+    cond (is_trace_refusal run.refusal) (refused_at (number_or_0 trace_refusal_number run.refusal) (refused_number run.refusal run.records))
     (cond (eqb run.records 0 && eqb (length left) 0) (refused_at 13 0) (after_records (length left) run.records run.found left))
 
 -- what is known of the bytes that are still to come: the number of a record has room for them
@@ -51,14 +53,14 @@ run_after run taken =
 
 -- A record that is taken is refused, or passed.
 pub data TakenAs (records : ℕ) (left lent : List ℕ) : Taken → Type 0 where
-  as_refused : (refusal : TraceRefusal) → is_trace_refusal refusal ≡ true → TakenAs records left lent (taken_with (not_passed records refusal) lent)
+  as_refused : (refusal : Option TraceRefusal) → is_trace_refusal refusal ≡ true → TakenAs records left lent (taken_with (not_passed records refusal) lent)
   as_passed : (next : NextRecord) (values : List ℕ) → TakenAs records left lent (taken_with (passed_as records left next) values)
 
 module _ (records : ℕ) (left lent : List ℕ) where
   hub_as : (address : ℕ) (start : PowerUp) (allowed : Bool)
-      → TakenAs records left lent (taken_with (cond allowed (passed_as records left (NextRecord.Hub address start)) (not_passed records TraceRefusal.AddressOutOfRange)) lent)
+      → TakenAs records left lent (taken_with (cond allowed (passed_as records left (NextRecord.Hub address start)) (not_passed records (Some TraceRefusal.AddressOutOfRange))) lent)
   hub_as address start true = as_passed (NextRecord.Hub address start) lent
-  hub_as address start false = as_refused TraceRefusal.AddressOutOfRange refl
+  hub_as address start false = as_refused (Some TraceRefusal.AddressOutOfRange) refl
 
   asked_as : (asked : TraceRecord) → TakenAs records left lent (take_asked records left lent asked)
   unfolding take_asked taken_hub
@@ -76,7 +78,7 @@ module _ (records : ℕ) (left lent : List ℕ) where
   taken_as = go (record_of (eqb records 0) left)
     where
       go : (found : Reply TraceRecord) → TakenAs records left lent (take_found records left lent found)
-      go (refused_with number detail) = as_refused TraceRefusal.MalformedRecord refl
+      go (refused_with number detail) = as_refused (Some TraceRefusal.MalformedRecord) refl
       go (given asked) = asked_as asked
 
 -- a record that may be taken, whatever follows the window in the trace (at its end, nothing)
@@ -109,7 +111,7 @@ module _ (last : Bool) (run : WritesRun) (left lent rest : List ℕ) (ends : las
   passed_on : (found : TraceWrites)
       → after_records (length later) (run.records + 1) found later
       ≡ to_come
-      (record { records = next_record_number run.records; refusal = TraceRefusal.NoRefusal; found = found }) later
+      (record { records = next_record_number run.records; refusal = None; found = found }) later
   passed_on found = rw (number, ne_eqb (run.records + 1) 0 (λ z. omega arith))
 
   comes_hub : (address : ℕ) (start : PowerUp) → Comes (given (hub_record address start))
@@ -117,7 +119,7 @@ module _ (last : Bool) (run : WritesRun) (left lent rest : List ℕ) (ends : las
   comes_hub address start = go (is_hub_address address)
     where
       go : (allowed : Bool)
-          → let taken = taken_with (cond allowed (passed_as run.records left (NextRecord.Hub address start)) (not_passed run.records TraceRefusal.AddressOutOfRange)) lent in
+          → let taken = taken_with (cond allowed (passed_as run.records left (NextRecord.Hub address start)) (not_passed run.records (Some TraceRefusal.AddressOutOfRange))) lent in
           and_then (at_record (run.records + 1) (cond allowed (given (with_hub address start run.found)) (refused 2))) (λ after. after_records (length later) (run.records + 1) after later)
           ≡ to_come (run_after run taken) (drop taken.result.used left ++ rest)
       go true = passed_on (with_hub address start run.found)

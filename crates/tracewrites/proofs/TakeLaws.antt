@@ -9,6 +9,7 @@ use native.Mathlib.Omega.{arith}
 use borrow.Author.Tests.{leb-true, not-true}
 use lib.Dec.{eqb, leb}
 use lib.ListN.{length, get_or, drop, length-drop}
+use Rattle.std.specs.Prelude.{Option}
 use Rattle.laws.specs.Reply.{given}
 use Rattle.laws.proofs.Bools.{both}
 use Rattle.buffers.specs.Putting.{Puts}
@@ -29,12 +30,12 @@ pub few_values : (left : List ℕ) → get_or left 3 0 < 256 → length (drop 1 
 few_values left small = omega (arith, data_most left, record_most left small, length-drop 1 (data_of left))
 
 -- what the tests of a record that may be taken tell
-pub record MayTake (refusal : TraceRefusal) (left : List ℕ) (last : Bool) (size : ℕ) : Type 0 where
+pub record MayTake (refusal : Option TraceRefusal) (left : List ℕ) (last : Bool) (size : ℕ) : Type 0 where
   pub on : is_trace_refusal refusal ≡ false
   pub room : most_values ≤ size
   pub shown : shows last left ≡ true
 
-pub tests : (refusal : TraceRefusal) (left : List ℕ) (last : Bool) (size : ℕ) → may_take_record refusal left last size ≡ true → MayTake refusal left last size
+pub tests : (refusal : Option TraceRefusal) (left : List ℕ) (last : Bool) (size : ℕ) → may_take_record refusal left last size ≡ true → MayTake refusal left last size
 unfolding may_take_record
 tests refusal left last size may =
     let on = not (is_trace_refusal refusal) in

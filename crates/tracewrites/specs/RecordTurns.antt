@@ -1,6 +1,6 @@
 -- How the source takes the next record of a window, one a turn.
 -- Assumes nothing.
-use Rattle.std.specs.Prelude.{◌≡◌, Bool, false, cond, not, ◌&&◌, List, ℕ, ◌+◌, ◌-◌, ◌^◌, ◌≤◌, min, eqb, leb, length, take, drop}
+use Rattle.std.specs.Prelude.{◌≡◌, Bool, false, cond, not, ◌&&◌, Option, Some, None, is_some, unwrap_or, List, ℕ, ◌+◌, ◌-◌, ◌^◌, ◌≤◌, min, eqb, leb, length, take, drop}
 use Rattle.laws.specs.Reply.{Reply, refused_with, given}
 use Rattle.laws.specs.Buffers.{written}
 use Rattle.streams.specs.Streams.{new_window, after_read, nothing_left}
@@ -10,37 +10,40 @@ use Rattle.trace.specs.Framing.{record_length, holds_record}
 use Rattle.trace.specs.Records.{TraceRecord, hub_record, write_record, read_record, write_question, read_question}
 use Rattle.trace.specs.Records.{start_record, end_record, pixel_line_record, record_of}
 use Rattle.tracewrites.specs.declared.TraceRefusal.{TraceRefusal}
-use Rattle.tracewrites.specs.declared.TraceRefusal.TheVariants.{NoRefusal, MalformedRecord, AddressOutOfRange}
+use Rattle.tracewrites.specs.declared.TraceRefusal.TheVariants.{MalformedRecord, AddressOutOfRange}
 use Rattle.tracewrites.specs.declared.TraceRefusal.TheVariants.{EmptyTrace}
 use Rattle.tracewrites.specs.declared.NextRecord.{NextRecord}
-use Rattle.tracewrites.specs.declared.NextRecord.TheVariants.{NoRecord, Hub, Write, Other}
+use Rattle.tracewrites.specs.declared.NextRecord.TheVariants.{Hub, Write, Other}
 use Rattle.tracewrites.specs.declared.TraceFile.{TraceFile}
 use Rattle.tracewrites.specs.declared.RecordTaken.{RecordTaken}
 use Rattle.tracewrites.specs.declared.RecordTurn.{RecordTurn}
 
--- the paper's number for each refusal, and 0 for none
+-- the paper's number for each refusal
 abbrev pub trace_refusal_number : TraceRefusal → ℕ
-trace_refusal_number NoRefusal = 0
 trace_refusal_number MalformedRecord = 13
 trace_refusal_number AddressOutOfRange = 2
 trace_refusal_number EmptyTrace = 13
 
-abbrev pub is_trace_refusal : TraceRefusal → Bool
-is_trace_refusal refusal = not (eqb (trace_refusal_number refusal) 0)
+abbrev pub is_trace_refusal : Option TraceRefusal → Bool
+is_trace_refusal refusal = is_some refusal
 
 -- the number of the record after so many others; it has 64 bits, and stays at the largest
 abbrev pub next_record_number : ℕ → ℕ
 next_record_number records = min (records + 1) (2 ^ 64 - 1)
 
--- the number of the record that is refused; 0 where none is, and in an empty trace, which has none
-abbrev pub refused_number : TraceRefusal → ℕ → ℕ
-refused_number NoRefusal records = 0
-refused_number MalformedRecord records = next_record_number records
-refused_number AddressOutOfRange records = next_record_number records
-refused_number EmptyTrace records = 0
+-- the number of the record that is refused; none is in an empty trace, which has none
+abbrev pub refused_record : Option TraceRefusal → ℕ → Option ℕ
+refused_record None records = None
+refused_record (Some MalformedRecord) records = Some (next_record_number records)
+refused_record (Some AddressOutOfRange) records = Some (next_record_number records)
+refused_record (Some EmptyTrace) records = None
+
+-- the same with 0 for none
+abbrev pub refused_number : Option TraceRefusal → ℕ → ℕ
+refused_number refusal records = unwrap_or (refused_record refusal records) 0
 
 abbrev pub new_trace_file : TraceFile
-new_trace_file = record { records = 0; refusal = NoRefusal; window = new_window }
+new_trace_file = record { records = 0; refusal = None; window = new_window }
 
 -- no record has more values: its length byte holds at most 255, and one byte is the offset
 abbrev pub most_values : ℕ
@@ -48,7 +51,7 @@ most_values = 254
 
 -- There is a record to take: none was refused; the most values have room; and the window holds a whole record or, at
 -- the trace's end (`last`), any byte.
-unfoldable pub may_take_record : TraceRefusal → List ℕ → Bool → ℕ → Bool
+unfoldable pub may_take_record : Option TraceRefusal → List ℕ → Bool → ℕ → Bool
 may_take_record refusal left last size =
     not (is_trace_refusal refusal) && leb most_values size && cond last (not (eqb (length left) 0)) (holds_record left)
 
@@ -61,18 +64,18 @@ abbrev pub taken_with : RecordTaken → List ℕ → Taken
 taken_with result values = record { result = result; values = values }
 
 -- no record is passed
-abbrev pub not_passed : ℕ → TraceRefusal → RecordTaken
-not_passed records refusal = record { records = records; refusal = refusal; next = NoRecord; used = 0 }
+abbrev pub not_passed : ℕ → Option TraceRefusal → RecordTaken
+not_passed records refusal = record { records = records; refusal = refusal; next = None; used = 0 }
 
 -- the record at the start of the bytes is passed
 abbrev pub passed_as : ℕ → List ℕ → NextRecord → RecordTaken
 passed_as records left next =
-    record { records = next_record_number records; refusal = NoRefusal; next = next; used = record_length left }
+    record { records = next_record_number records; refusal = None; next = Some next; used = record_length left }
 
 -- a hub record: 2 where the address is none that a hub has
 unfoldable pub taken_hub : ℕ → List ℕ → ℕ → PowerUp → RecordTaken
 taken_hub records left address start =
-    cond (is_hub_address address) (passed_as records left (Hub address start)) (not_passed records AddressOutOfRange)
+    cond (is_hub_address address) (passed_as records left (Hub address start)) (not_passed records (Some AddressOutOfRange))
 
 -- what a record asks: the values of a write are put at the start of the lent buffer, and other records put nothing
 unfoldable pub take_asked : ℕ → List ℕ → List ℕ → TraceRecord → Taken
@@ -87,7 +90,7 @@ take_asked records left lent (end_record port) = taken_with (passed_as records l
 take_asked records left lent (pixel_line_record port width pixel) = taken_with (passed_as records left Other) lent
 
 abbrev pub take_found : ℕ → List ℕ → List ℕ → Reply TraceRecord → Taken
-take_found records left lent (refused_with number detail) = taken_with (not_passed records MalformedRecord) lent
+take_found records left lent (refused_with number detail) = taken_with (not_passed records (Some MalformedRecord)) lent
 take_found records left lent (given asked) = take_asked records left lent asked
 
 -- one record
@@ -95,12 +98,12 @@ unfoldable pub take_record : ℕ → List ℕ → List ℕ → Taken
 take_record records left lent = take_found records left lent (record_of (eqb records 0) left)
 
 -- where no record is to be taken: a trace that ends before its first record is empty
-unfoldable pub refusal_then : ℕ → TraceRefusal → ℕ → Bool → TraceRefusal
+unfoldable pub refusal_then : ℕ → Option TraceRefusal → ℕ → Bool → Option TraceRefusal
 refusal_then records refusal count last =
-    cond (not (is_trace_refusal refusal) && eqb records 0 && nothing_left false last count) EmptyTrace refusal
+    cond (not (is_trace_refusal refusal) && eqb records 0 && nothing_left false last count) (Some EmptyTrace) refusal
 
 -- the next record of a window, if there is one to take
-unfoldable pub take_next : Bool → ℕ → TraceRefusal → List ℕ → List ℕ → Taken
+unfoldable pub take_next : Bool → ℕ → Option TraceRefusal → List ℕ → List ℕ → Taken
 take_next last records refusal left lent =
     cond (may_take_record refusal left last (length lent)) (take_record records left lent)
     (taken_with (not_passed records (refusal_then records refusal (length left) last)) lent)

@@ -1,16 +1,15 @@
 -- The register writes of a trace of any size, turn by turn: however its bytes are read, the work ends, and what the
 -- turns gave are the writes of the trace, or it is refused as the trace is.
 -- Assumes nothing.
-use Rattle.std.specs.Prelude.{◌≡◌, true, cond, List, [], ℕ, ◌+◌, ◌*◌, ◌^◌, ◌≤◌, ◌<◌, length, take, drop}
+use Rattle.std.specs.Prelude.{◌≡◌, true, cond, Option, Some, None, List, [], ℕ, ◌+◌, ◌*◌, ◌^◌, ◌≤◌, ◌<◌, length, take, drop}
 use Rattle.laws.specs.Reply.{Reply, refused_at, given}
 use Rattle.laws.specs.Elements.{AreBytes}
-use Rattle.streams.specs.Streams.{Work, Way, way_from, TurnInput, all_turns, AllLend}
+use Rattle.streams.specs.Streams.{Work, Way, way_from, TurnInput, all_turns, AllLend, number_or_0}
 use Rattle.streams.specs.Streams.{StandsAt, ReadGave, IsNextTurn}
 use Rattle.trace.specs.Framing.{longest_record}
 use Rattle.tracewrites.specs.declared.TraceRefusal.{TraceRefusal}
-use Rattle.tracewrites.specs.declared.TraceRefusal.TheVariants.{NoRefusal}
 use Rattle.tracewrites.specs.declared.NextRecord.{NextRecord}
-use Rattle.tracewrites.specs.declared.NextRecord.TheVariants.{NoRecord, Hub, Write, Other}
+use Rattle.tracewrites.specs.declared.NextRecord.TheVariants.{Hub, Write, Other}
 use Rattle.tracewrites.specs.declared.TraceFile.{TraceFile}
 use Rattle.tracewrites.specs.declared.RecordTurn.{RecordTurn}
 use Rattle.tracewrites.specs.TraceWrites.{TraceWrites, no_writes, with_hub, with_burst, trace_writes}
@@ -18,21 +17,21 @@ use Rattle.tracewrites.specs.RecordTurns.{trace_refusal_number, is_trace_refusal
 use Rattle.tracewrites.specs.RecordTurns.{take_next, MakesRecordTurn}
 
 -- what a turn gave, after what the turns before it gave: the values of a write stand at the start of the lent buffer
-abbrev pub with_given : TraceWrites → NextRecord → List ℕ → TraceWrites
-with_given before NoRecord values = before
-with_given before (Hub address start) values = with_hub address start before
-with_given before (Write number offset count) values = with_burst number offset (take count values) before
-with_given before Other values = before
+abbrev pub with_given : TraceWrites → Option NextRecord → List ℕ → TraceWrites
+with_given before None values = before
+with_given before (Some (Hub address start)) values = with_hub address start before
+with_given before (Some (Write number offset count)) values = with_burst number offset (take count values) before
+with_given before (Some Other) values = before
 
 -- Between two turns: how many records were passed, whether one was refused, and what the turns gave so far. (The last
 -- is for the law alone: the source does not keep it.)
 pub record WritesRun : Type 0 where
   pub records : ℕ
-  pub refusal : TraceRefusal
+  pub refusal : Option TraceRefusal
   pub found : TraceWrites
 
 abbrev pub new_writes_run : WritesRun
-new_writes_run = record { records = 0; refusal = NoRefusal; found = no_writes }
+new_writes_run = record { records = 0; refusal = None; found = no_writes }
 
 -- The turns as work on a file (`streams`). It puts nothing out: what the turns gave is its state.
 abbrev pub taking_trace_writes : Work WritesRun
@@ -69,7 +68,7 @@ RecordTurnIsNext =
 abbrev pub end_of_run : WritesRun → Reply TraceWrites
 end_of_run run =
     cond (is_trace_refusal run.refusal)
-    (refused_at (trace_refusal_number run.refusal) (refused_number run.refusal run.records))
+    (refused_at (number_or_0 trace_refusal_number run.refusal) (refused_number run.refusal run.records))
     (given run.found)
 
 -- the work on a whole trace, to its end: the hub and the writes that the turns gave, or the refusal, are the trace's

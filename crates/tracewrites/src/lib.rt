@@ -3,28 +3,39 @@
 #![tactic(auto)]
 
 ghost use Rattle.std.specs.Prelude.{◌≡◌};
-ghost use Rattle.tracewrites.specs.RecordTurns.{trace_refusal_number, is_trace_refusal, next_record_number};
-ghost use Rattle.tracewrites.specs.RecordTurns.{refused_number, new_trace_file, MakesRecordTurn};
+ghost use Rattle.tracewrites.specs.RecordTurns.{trace_refusal_number, next_record_number};
+ghost use Rattle.tracewrites.specs.RecordTurns.{refused_record, new_trace_file, MakesRecordTurn};
 
+use refusals::Refusal;
 use registers::power_up::PowerUp;
 use streams::Window;
 
 mod record;
 
-// Why a trace is refused, if it is.
+// Why a trace is refused.
 #[derive(Clone, Copy)]
 pub enum TraceRefusal {
-    NoRefusal,
     MalformedRecord,
     AddressOutOfRange,
     EmptyTrace,
 }
 
-// What a turn found: no record; the hub's own address and how it starts; a write with the number of its record, the
-// offset of its first value and how many values it has; or a record that writes nothing.
+impl Refusal for TraceRefusal {
+    ghost number = { trace_refusal_number };
+
+    fn number(self) -> u8 {
+        match self {
+            TraceRefusal::MalformedRecord => 13,
+            TraceRefusal::AddressOutOfRange => 2,
+            TraceRefusal::EmptyTrace => 13,
+        }
+    }
+}
+
+// What a record is: the hub's own address and how it starts; a write with the number of its record, the offset of its
+// first value and how many values it has; or a record that writes nothing.
 #[derive(Clone, Copy)]
 pub enum NextRecord {
-    NoRecord,
     Hub {
         address: u8,
         start: PowerUp,
@@ -42,66 +53,42 @@ pub enum NextRecord {
 #[derive(Clone, Copy)]
 pub struct TraceFile {
     pub records: u64,
-    pub refusal: TraceRefusal,
+    pub refusal: Option<TraceRefusal>,
     pub window: Window,
 }
 
-// What a turn gives: where the trace stands after it, the record that it took, and whether nothing is left to do.
+// What a turn gives: where the trace stands after it, the record that it took, if it took one, and whether nothing is left to do.
 #[derive(Clone, Copy)]
 pub struct RecordTurn {
     pub file: TraceFile,
-    pub next: NextRecord,
+    pub next: Option<NextRecord>,
     pub done: bool,
 }
 
-// What came of the bytes of a window: the records passed and the refusal after it, the record that was taken, and how
-// many bytes it has.
+// What came of the bytes of a window: the records passed and the refusal after it, the record that was taken, if one
+// was, and how many bytes it has.
 #[derive(Clone, Copy)]
 pub(crate) struct RecordTaken {
     pub records: u64,
-    pub refusal: TraceRefusal,
-    pub next: NextRecord,
+    pub refusal: Option<TraceRefusal>,
+    pub next: Option<NextRecord>,
     pub used: usize,
-}
-
-// The paper's number of a refusal, and 0 for none.
-pub fn refusal_number(refusal: TraceRefusal) -> u8
-    ensures { result ≡ trace_refusal_number refusal }
-{
-    match refusal {
-        TraceRefusal::NoRefusal => 0,
-        TraceRefusal::MalformedRecord => 13,
-        TraceRefusal::AddressOutOfRange => 2,
-        TraceRefusal::EmptyTrace => 13,
-    }
-}
-
-pub(crate) fn is_trace_refusal(refusal: TraceRefusal) -> bool
-    ensures { result ≡ is_trace_refusal refusal }
-{
-    refusal_number(refusal) != 0
 }
 
 // The number of the record after so many others: records are counted from 1.
 pub(crate) fn next_record_number(records: u64) -> u64
     ensures { result ≡ next_record_number records }
 {
-    if records < 0xFFFF_FFFF_FFFF_FFFF {
-        return records + 1;
-    }
-    records
+    records.saturating_add(1)
 }
 
-// The number of the record that is refused; 0 where none is, and for an empty trace, which has none.
-pub fn refused_record(file: TraceFile) -> u64
-    ensures { result ≡ refused_number file.refusal file.records }
+// The number of the record that is refused; an empty trace has none.
+pub fn refused_record(file: TraceFile) -> Option<u64>
+    ensures { result ≡ refused_record file.refusal file.records }
 {
-    let refusal = file.refusal;
-    match refusal {
-        TraceRefusal::NoRefusal => 0,
-        TraceRefusal::MalformedRecord => next_record_number(file.records),
-        TraceRefusal::AddressOutOfRange => next_record_number(file.records),
-        TraceRefusal::EmptyTrace => 0,
+    match file.refusal {
+        None | Some(TraceRefusal::EmptyTrace) => None,
+        Some(_) => Some(next_record_number(file.records)),
     }
 }
 
@@ -112,7 +99,7 @@ pub fn new_file() -> TraceFile
     let window = streams::new_window();
     TraceFile {
         records: 0,
-        refusal: TraceRefusal::NoRefusal,
+        refusal: None,
         window,
     }
 }
@@ -124,22 +111,24 @@ pub fn turn(file: TraceFile, got: usize, buffer: &mut [u8], values: &mut [u8]) -
     ensures { MakesRecordTurn file got buffer.old values.old
         result buffer.new values.new }
 {
-    let before = file.window;
-    let refused = file.refusal;
-    let window = streams::after_read(before, got, buffer.len());
-    let held = window.held;
+    let window = streams::after_read(file.window, got, buffer.len());
     let last = window.last;
-    let taken = record::take_next(file.records, refused, &buffer[..held], last, values);
+    let taken = record::take_next(
+        file.records,
+        file.refusal,
+        &buffer[..window.held],
+        last,
+        values,
+    );
     let refusal = taken.refusal;
-    let next = taken.next;
-    let left = streams::slide(buffer, taken.used, held);
+    let held = streams::slide(buffer, taken.used, window.held);
     RecordTurn {
         file: TraceFile {
             records: taken.records,
             refusal,
-            window: Window { held: left, last },
+            window: Window { held, last },
         },
-        next,
-        done: streams::nothing_left(is_trace_refusal(refusal), last, left),
+        next: taken.next,
+        done: streams::nothing_left(refusal.is_some(), last, held),
     }
 }

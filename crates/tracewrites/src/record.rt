@@ -5,15 +5,15 @@ ghost use Rattle.tracewrites.specs.RecordTurns.{taken_hub, take_record, refusal_
 
 use crate::{NextRecord, RecordTaken, TraceRefusal};
 use registers::power_up::PowerUp;
-use trace::{FoundRecord, Record};
+use trace::Record;
 
 // The values that have to have room for a record to be taken: no record has more.
 const MOST_VALUES: usize = 254;
 
-fn may_take_record(refusal: TraceRefusal, left: &[u8], last: bool, size: usize) -> bool
+fn may_take_record(refusal: Option<TraceRefusal>, left: &[u8], last: bool, size: usize) -> bool
     ensures { result ≡ may_take_record refusal left.now last size }
 {
-    if crate::is_trace_refusal(refusal) {
+    if refusal.is_some() {
         return false;
     }
     if size < MOST_VALUES {
@@ -26,13 +26,13 @@ fn may_take_record(refusal: TraceRefusal, left: &[u8], last: bool, size: usize) 
 }
 
 // No record is passed.
-fn not_passed(records: u64, refusal: TraceRefusal) -> RecordTaken
+fn not_passed(records: u64, refusal: Option<TraceRefusal>) -> RecordTaken
     ensures { result ≡ not_passed records refusal }
 {
     RecordTaken {
         records,
         refusal,
-        next: NextRecord::NoRecord,
+        next: None,
         used: 0,
     }
 }
@@ -43,8 +43,8 @@ fn passed_as(records: u64, left: &[u8], next: NextRecord) -> RecordTaken
 {
     RecordTaken {
         records: crate::next_record_number(records),
-        refusal: TraceRefusal::NoRefusal,
-        next,
+        refusal: None,
+        next: Some(next),
         used: trace::record_length(left),
     }
 }
@@ -55,7 +55,7 @@ fn taken_hub(records: u64, left: &[u8], address: u8, start: PowerUp) -> RecordTa
     if hub::is_hub_address(address) {
         return passed_as(records, left, NextRecord::Hub { address, start });
     }
-    not_passed(records, TraceRefusal::AddressOutOfRange)
+    not_passed(records, Some(TraceRefusal::AddressOutOfRange))
 }
 
 // Takes the record at the start of what is left of a window; one that is refused stays.
@@ -64,8 +64,8 @@ fn take_record(records: u64, left: &[u8], values: &mut [u8]) -> RecordTaken
     ensures { taken_with result values.new
         ≡ take_record records left.now values.old }
 {
-    let FoundRecord::Found(asked) = trace::record_at(left, records == 0) else {
-        return not_passed(records, TraceRefusal::MalformedRecord);
+    let Some(asked) = trace::record_at(left, records == 0) else {
+        return not_passed(records, Some(TraceRefusal::MalformedRecord));
     };
     if let Record::Hub { address, start } = asked {
         return taken_hub(records, left, address, start);
@@ -87,17 +87,22 @@ fn take_record(records: u64, left: &[u8], values: &mut [u8]) -> RecordTaken
 }
 
 // The refusal where no record is to be taken: a trace that ends before its first record is empty.
-fn refusal_then(records: u64, refusal: TraceRefusal, count: usize, last: bool) -> TraceRefusal
+fn refusal_then(
+    records: u64,
+    refusal: Option<TraceRefusal>,
+    count: usize,
+    last: bool,
+) -> Option<TraceRefusal>
     ensures { result ≡ refusal_then records refusal count last }
 {
-    if crate::is_trace_refusal(refusal) {
+    if refusal.is_some() {
         return refusal;
     }
     if records != 0 {
         return refusal;
     }
     if streams::nothing_left(false, last, count) {
-        return TraceRefusal::EmptyTrace;
+        return Some(TraceRefusal::EmptyTrace);
     }
     refusal
 }
@@ -105,7 +110,7 @@ fn refusal_then(records: u64, refusal: TraceRefusal, count: usize, last: bool) -
 // Takes the next record of a window, if there is one to take.
 pub(crate) fn take_next(
     records: u64,
-    refusal: TraceRefusal,
+    refusal: Option<TraceRefusal>,
     left: &[u8],
     last: bool,
     values: &mut [u8],

@@ -3,14 +3,14 @@ use Rattle.std.proofs.Common.{sym, ◌∙◌, eq-eqb, ne_eqb}
 use Rattle.tracetext.specs.TextFiles.{end_refusal}
 use Rattle.tracetext.proofs.end_refusal.Goals as goal
 
-pub returns-then-is_text_refusal : goal.returns-then-is_text_refusal
+pub returns-then-is_some : goal.returns-then-is_some
 unfolding end_refusal
-returns-then-is_text_refusal c = rw (sym c.is_text_refusal.ensures ∙ c.if-is_text_refusal.true)
+returns-then-is_some c = rw (sym c.is_some.ensures ∙ c.if-is_some.true)
 
 pub returns-then-run-eq0 : goal.returns-then-run-eq0
 unfolding end_refusal
-returns-then-run-eq0 c = rw (sym c.is_text_refusal.ensures ∙ c.if-is_text_refusal.false, eq-eqb _ 0 c.if-run-eq0.true)
+returns-then-run-eq0 c = rw (sym c.is_some.ensures ∙ c.if-is_some.false, eq-eqb _ 0 c.if-run-eq0.true)
 
 pub returns : goal.returns
 unfolding end_refusal
-returns c = rw (sym c.is_text_refusal.ensures ∙ c.if-is_text_refusal.false, ne_eqb _ 0 c.if-run-eq0.false)
+returns c = rw (sym c.is_some.ensures ∙ c.if-is_some.false, ne_eqb _ 0 c.if-run-eq0.false)
