@@ -18,10 +18,8 @@ use Rattle.laws.proofs.Absurd.{zero_not_one}
 use Rattle.laws.proofs.Bools.{both}
 use Rattle.hub.specs.declared.Hub.{Hub}
 use Rattle.translation.specs.declared.PortDevice.{PortDevice}
-use Rattle.translation.specs.declared.Addressed.{Addressed}
-use Rattle.translation.specs.declared.Addressed.TheVariants.{Hub as the_hub, NoDevice as no_device, Found as found}
 use Rattle.translation.specs.declared.Devices.{Devices}
-use Rattle.translation.specs.Translation.{devices_of, addressee_of, who_hears_write}
+use Rattle.translation.specs.Translation.{Addressed, the_hub, no_device, found, devices_of, addressee_of, who_hears_write}
 use Rattle.clashes.specs.Channels.{is_forwarded}
 use Rattle.clashes.specs.Addresses.{any_behind, answer_reaches, address_reaches, any_below, is_reached, has_no_address}
 use Rattle.clashes.specs.Addresses.{Hearer, AddressReachesExact, AddressSharedExact, ReachedMeans, ReachedExact}

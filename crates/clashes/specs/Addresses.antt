@@ -4,9 +4,7 @@ use Rattle.std.specs.Prelude.{◌≡◌, Bool, true, false, cond, not, ◌&&◌,
 use Rattle.laws.specs.Reply.{Reply, refused_with, given}
 use Rattle.hub.specs.declared.Hub.{Hub}
 use Rattle.translation.specs.declared.PortDevice.{PortDevice}
-use Rattle.translation.specs.declared.Addressed.{Addressed}
-use Rattle.translation.specs.declared.Addressed.TheVariants.{Hub as the_hub, NoDevice as no_device, Found as found}
-use Rattle.translation.specs.Translation.{who_hears_write}
+use Rattle.translation.specs.Translation.{Addressed, the_hub, no_device, found, who_hears_write}
 use Rattle.translation.specs.Laws.{HearsWrite}
 use Rattle.ports.specs.PortMasks.{port_mask, several_ports}
 use Rattle.clashes.specs.Channels.{is_forwarded}

@@ -13,10 +13,8 @@ use Rattle.registers.specs.RegisterMap.{BCC_CONFIG}
 use Rattle.hub.specs.declared.Hub.{Hub}
 use Rattle.translation.specs.declared.Remote.{Remote}
 use Rattle.translation.specs.declared.PortDevice.{PortDevice}
-use Rattle.translation.specs.declared.Addressed.{Addressed}
-use Rattle.translation.specs.declared.Addressed.TheVariants.{Hub as the_hub, NoDevice as no_device, Found as found}
 use Rattle.translation.specs.declared.Devices.{Devices}
-use Rattle.translation.specs.Translation.{devices_of, who_hears_write}
+use Rattle.translation.specs.Translation.{Addressed, the_hub, no_device, found, devices_of, who_hears_write}
 use Rattle.translation.proofs.Laws.{write_reaches_ports}
 use Rattle.ports.specs.PortMasks.{port_mask}
 use Rattle.origins.specs.declared.RegistersWithOrigins.{RegistersWithOrigins}

@@ -11,9 +11,7 @@ use Rattle.hub.specs.declared.Hub.{Hub}
 use Rattle.translation.specs.declared.Remote.{Remote}
 use Rattle.translation.specs.declared.Remote.TheVariants.{Serializer, Target}
 use Rattle.translation.specs.declared.PortDevice.{PortDevice}
-use Rattle.translation.specs.declared.Addressed.{Addressed}
-use Rattle.translation.specs.declared.Addressed.TheVariants.{Hub as the_hub, NoDevice as no_device, Found as found}
-use Rattle.translation.specs.Translation.{who_hears_write}
+use Rattle.translation.specs.Translation.{Addressed, the_hub, no_device, found, who_hears_write}
 use Rattle.ports.specs.PortMasks.{port_mask}
 use Rattle.origins.specs.declared.RegistersWithOrigins.{RegistersWithOrigins}
 use Rattle.origins.specs.Origins.{port_register}
