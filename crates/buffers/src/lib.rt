@@ -51,7 +51,8 @@ pub fn two_bytes(low: u8, high: u8) -> u16
     u16::from_le_bytes([low, high])
 }
 
-// Puts a byte at the place, if it has room, and answers the next free place.
+// Puts a byte at the place, if it has room, and answers the next free place. (A buffer and a place, no cursor with
+// both: docs/DECISIONS.md, 8.)
 pub fn put_byte(out: &mut [u8], at: usize, byte: u8) -> usize
     ensures { Puts out.old at (byte ∷ []) out.new result }
 {

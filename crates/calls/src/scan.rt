@@ -22,7 +22,7 @@ fn is_blank(byte: u8) -> bool
     byte == b' ' || byte == b'\t'
 }
 
-// The place after spaces and tabs.
+// The place after spaces and tabs. (A `for` from the place on is no plainer: the place may lie past the end.)
 pub(crate) fn after_blanks(line: &[u8], at: usize) -> usize
     ensures { drop result line.now ≡ after_blanks (drop at line.now) }
 {

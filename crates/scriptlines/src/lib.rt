@@ -79,7 +79,7 @@ pub fn new_file() -> ScriptFile
 }
 
 // Takes the lines of a window of the file, as far as they are whole and there is room for their records from the place
-// on; `last` where the file ends with the window.
+// on; `last` where the file ends with the window. (The step of the loop is a line, whose length its reading tells.)
 pub fn take_lines(
     run: ScriptRun,
     window: &[u8],
@@ -111,7 +111,8 @@ pub fn take_lines(
 }
 
 // One turn: `got` bytes of the file were read into the buffer after those that it held. Their lines are taken, and what
-// is left of them moves to the buffer's start.
+// is left of them moves to the buffer's start. (The turns of the crates that read files share these three calls of
+// `streams`: a closure in their place would hide the lent buffers from the contract.)
 pub fn turn(file: ScriptFile, got: usize, buffer: &mut [u8], out: &mut [u8]) -> ScriptTurn
     ensures { MakesScriptTurn file got buffer.old out.old
         result buffer.new out.new }

@@ -74,6 +74,7 @@ pub fn end_refusal(run: TextRun) -> Option<TextRefusal>
 
 // Puts the texts of the records of a window one after the other from the place on, as far as the records are whole and
 // there is room for the longest text; a record that is refused ends it. `last` where the trace ends with the window.
+// (The step of the loop is a record, whose length its head tells.)
 pub fn text_window(run: TextRun, window: &[u8], last: bool, out: &mut [u8], at: usize) -> TextListed
     ensures { ListsWindow last
         (list_state_at run window.now out.old at) result out.new }
