@@ -1,6 +1,6 @@
 // The records of frame events: each is played on the hub, with the lent packet buffer, and its line has the header of
 // its packet.
-ghost use Rattle.std.specs.Prelude.{◌≡◌, ◌≤◌, min, length, replicate};
+ghost use Rattle.std.specs.Prelude.{◌≡◌, length, replicate};
 ghost use Rattle.laws.specs.Reply.{on_reply};
 ghost use Rattle.frames.specs.Events.{event_answer_reply};
 ghost use Rattle.trace.specs.Records.{start_record, end_record, pixel_line_record};
@@ -10,7 +10,7 @@ ghost use Rattle.playback.specs.PrivateContracts.{played_of, first_four};
 
 use crate::record::RecordPlayed;
 use answers::{EventKind, Header, RecordAnswer};
-use frames::{EventAnswer, end, pixel_line, start};
+use frames::{EventRefusal, Sent, end, pixel_line, start};
 use hub::Hub;
 
 // The pixels of the widest line, and one more.
@@ -29,16 +29,20 @@ fn header_of(packets: &[u8]) -> Header
 }
 
 // What the record of an event is answered, where the packet of the event is at the start of the buffer.
-fn event_answer(event: EventKind, port: u8, answer: EventAnswer, packets: &[u8]) -> RecordAnswer
+fn event_answer(
+    event: EventKind,
+    port: u8,
+    answer: Result<Option<Sent>, EventRefusal>,
+    packets: &[u8],
+) -> RecordAnswer
     ensures { answer_reply result
         ≡ on_reply (event_with event port (first_four packets.now)) (event_answer_reply answer) }
 {
-    let header = header_of(packets);
     RecordAnswer::FrameEvent {
         event,
         port,
         answer,
-        header,
+        header: header_of(packets),
     }
 }
 
@@ -46,11 +50,9 @@ pub(crate) fn play_start(hub: Hub, port: u8, bits: u8, packets: &mut [u8]) -> Re
     ensures { played_of result packets.new ≡ play_asked hub packets.old (start_record port bits) }
 {
     let started = start::start(hub, port, bits, packets, 0);
-    let answer = started.answer;
-    let after = started.hub;
     RecordPlayed {
-        hub: after,
-        answer: event_answer(EventKind::Start, port, answer, packets),
+        hub: started.hub,
+        answer: event_answer(EventKind::Start, port, started.answer, packets),
         ends: false,
     }
 }
@@ -59,11 +61,9 @@ pub(crate) fn play_end(hub: Hub, port: u8, packets: &mut [u8]) -> RecordPlayed
     ensures { played_of result packets.new ≡ play_asked hub packets.old (end_record port) }
 {
     let ended = end::end(hub, port, packets, 0);
-    let answer = ended.answer;
-    let after = ended.hub;
     RecordPlayed {
-        hub: after,
-        answer: event_answer(EventKind::End, port, answer, packets),
+        hub: ended.hub,
+        answer: event_answer(EventKind::End, port, ended.answer, packets),
         ends: false,
     }
 }
@@ -73,16 +73,6 @@ fn equal_pixels(pixel: u16) -> [u16; TOO_WIDE]
     ensures { (result ≡ replicate 4097 pixel) × (4097 ≡ length result) }
 {
     [pixel; TOO_WIDE]
-}
-
-// How many pixels of a line are lent: a line that is too wide is as well refused with one pixel too many.
-fn lent_width(width: u16) -> usize
-    ensures { (result ≡ min width 4097) × (result ≤ 4097) }
-{
-    if TOO_WIDE < width as usize {
-        return TOO_WIDE;
-    }
-    width as usize
 }
 
 pub(crate) fn play_pixel_line(
@@ -96,7 +86,8 @@ pub(crate) fn play_pixel_line(
         ≡ play_asked hub packets.old (pixel_line_record port width pixel) }
 {
     let pixels = equal_pixels(pixel);
-    let lent = lent_width(width);
+    // (A line that is too wide is as well refused with one pixel too many.)
+    let lent = (width as usize).min(TOO_WIDE);
     let answer = pixel_line::pixel_line(hub, port, &pixels[0..lent], packets, 0);
     RecordPlayed {
         hub,

@@ -5,6 +5,7 @@ ghost use Rattle.std.specs.Prelude.{◌≡◌};
 ghost use Rattle.playback.specs.Windows.{new_session, state_at, PlaysWindow};
 
 use hub::Hub;
+use registers::power_up;
 use registers::power_up::PowerUp;
 
 mod event;
@@ -33,10 +34,8 @@ pub struct WindowPlayed {
 pub fn new() -> Session
     ensures { result ≡ new_session }
 {
-    let made = hub::new(0x08, PowerUp::Boot);
-    let hub = made.hub;
     Session {
-        hub,
+        hub: hub::hub_with(0x08, power_up::registers_at(PowerUp::Boot)),
         records: 0,
         refusals: 0,
         ended: false,

@@ -7,9 +7,9 @@ ghost use Rattle.playback.specs.PrivateContracts.{played_of};
 
 use crate::event;
 use answers::RecordAnswer;
-use hub::{CreationAnswer, Hub};
+use hub::Hub;
 use registers::power_up::PowerUp;
-use trace::{FoundRecord, Record};
+use trace::Record;
 
 // The hub after a record, what the record was answered, and whether it ends the run.
 #[derive(Clone, Copy)]
@@ -23,22 +23,23 @@ pub(crate) struct RecordPlayed {
 fn play_hub(hub: Hub, address: u8, start: PowerUp) -> RecordPlayed
     ensures { (packets : List ℕ) → played_of result packets ≡ play_asked hub packets (hub_record address start) }
 {
-    let made = hub::new(address, start);
-    let answer = made.answer;
-    match answer {
-        CreationAnswer::AddressOutOfRange => RecordPlayed {
+    match hub::new(address, start) {
+        Ok(made) => RecordPlayed {
+            hub: made,
+            answer: RecordAnswer::Hub {
+                address,
+                answer: Ok(()),
+            },
+            ends: false,
+        },
+        Err(refusal) => RecordPlayed {
             hub,
-            answer: RecordAnswer::Hub { address, answer },
+            answer: RecordAnswer::Hub {
+                address,
+                answer: Err(refusal),
+            },
             ends: true,
         },
-        CreationAnswer::Created => {
-            let after = made.hub;
-            RecordPlayed {
-                hub: after,
-                answer: RecordAnswer::Hub { address, answer },
-                ends: false,
-            }
-        }
     }
 }
 
@@ -46,9 +47,8 @@ fn play_write(hub: Hub, offset: u8, values: &[u8]) -> RecordPlayed
     ensures { (packets : List ℕ) →
         played_of result packets ≡ play_asked hub packets (write_record offset values.now) }
 {
-    let after = hub::burst(hub, offset, values);
     RecordPlayed {
-        hub: after,
+        hub: hub::burst(hub, offset, values),
         answer: RecordAnswer::Write {
             offset,
             count: values.len() as u64,
@@ -94,29 +94,29 @@ fn play_read_question(hub: Hub, address: u8) -> RecordPlayed
 pub(crate) fn play_found(
     hub: Hub,
     bytes: &[u8],
-    found: FoundRecord,
+    found: Option<Record>,
     packets: &mut [u8],
 ) -> RecordPlayed
     ensures { played_of result packets.new
         ≡ play_record hub packets.old (found_reply (data_of bytes.now) found) }
 {
-    match found {
-        FoundRecord::NoRecord => RecordPlayed {
+    let Some(record) = found else {
+        return RecordPlayed {
             hub,
             answer: RecordAnswer::NoRecord,
             ends: true,
-        },
-        FoundRecord::Found(record) => match record {
-            Record::Hub { address, start } => play_hub(hub, address, start),
-            Record::Write { offset } => play_write(hub, offset, trace::values(bytes)),
-            Record::Read { offset } => play_read(hub, offset),
-            Record::WriteQuestion { address } => play_write_question(hub, address),
-            Record::ReadQuestion { address } => play_read_question(hub, address),
-            Record::Start { port, bits } => event::play_start(hub, port, bits, packets),
-            Record::End { port } => event::play_end(hub, port, packets),
-            Record::PixelLine { port, width, pixel } => {
-                event::play_pixel_line(hub, port, width, pixel, packets)
-            }
-        },
+        };
+    };
+    match record {
+        Record::Hub { address, start } => play_hub(hub, address, start),
+        Record::Write { offset } => play_write(hub, offset, trace::values(bytes)),
+        Record::Read { offset } => play_read(hub, offset),
+        Record::WriteQuestion { address } => play_write_question(hub, address),
+        Record::ReadQuestion { address } => play_read_question(hub, address),
+        Record::Start { port, bits } => event::play_start(hub, port, bits, packets),
+        Record::End { port } => event::play_end(hub, port, packets),
+        Record::PixelLine { port, width, pixel } => {
+            event::play_pixel_line(hub, port, width, pixel, packets)
+        }
     }
 }

@@ -6,7 +6,6 @@ ghost use Rattle.playback.specs.PrivateContracts.{played_of, PlaysOne};
 
 use crate::record::RecordPlayed;
 use crate::{Session, WindowPlayed, record};
-use std::num::wrapping_add_u64;
 
 // The bytes that have to be free for the line of a record: more than any line has.
 const TEXT_ROOM: usize = 128;
@@ -30,23 +29,17 @@ pub(crate) fn may_play(session: Session, left: &[u8], last: bool, size: usize, a
 fn used_by(left: &[u8]) -> usize
     ensures { result ≡ min (record_length left.now) (length left.now) }
 {
-    let whole = trace::record_length(left);
-    if whole <= left.len() {
-        return whole;
-    }
-    left.len()
+    trace::record_length(left).min(left.len())
 }
 
 fn session_after(session: Session, played: RecordPlayed) -> Session
     ensures { (packets : List ℕ) → result ≡ session_after session (played_of played packets) }
 {
-    let hub = played.hub;
-    let answer = played.answer;
-    let refusal = answers::is_refused(answer) as u64;
+    let refusal = answers::is_refused(played.answer) as u64;
     Session {
-        hub,
-        records: wrapping_add_u64(session.records, 1),
-        refusals: wrapping_add_u64(session.refusals, refusal),
+        hub: played.hub,
+        records: session.records.wrapping_add(1),
+        refusals: session.refusals.wrapping_add(refusal),
         ended: played.ends,
     }
 }
@@ -65,15 +58,11 @@ pub(crate) fn play_one(
         result packets.new out.new }
 {
     let found = trace::record_at(left, session.records == 0);
-    let used = used_by(left);
-    let hub = session.hub;
-    let played = record::play_found(hub, left, found, packets);
+    let played = record::play_found(session.hub, left, found, packets);
     let after = session_after(session, played);
-    let answer = played.answer;
-    let next = printing::put_printed_line(after.records, answer, out, at);
     WindowPlayed {
         session: after,
-        used,
-        next,
+        used: used_by(left),
+        next: printing::put_printed_line(after.records, played.answer, out, at),
     }
 }

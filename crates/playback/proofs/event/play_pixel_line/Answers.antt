@@ -10,5 +10,5 @@ pub returns : goal.returns
 unfolding play_asked
 returns c =
     let x = c.args in
-    let same = lent_pixels x.hub x.port (length x.packets.now) x.width x.pixel c.equal_pixels-pixels.ensures.0 c.lent_width-lent.ensures.0 in
+    let same = lent_pixels x.hub x.port (length x.packets.now) x.width x.pixel c.equal_pixels-pixels.ensures.0 c.min-lent.ensures in
     event_played PixelLine x.port x.packets.now x.hub (pixel_line_event x.port (replicate x.width x.pixel)) (rw same at c.pixel_line-answer.ensures) c.event_answer.ensures

@@ -3,10 +3,10 @@ use Rattle.std.proofs.Common.{sym}
 use Rattle.playback.specs.Playing.{play_asked}
 use Rattle.playback.proofs.record.play_hub.Goals as goal
 
-pub returns-in-AddressOutOfRange : goal.returns-in-AddressOutOfRange
+pub returns-in-Ok : goal.returns-in-Ok
 unfolding play_asked
-returns-in-AddressOutOfRange c = λ packets. rw (sym c.new-made.ensures.0, c.in-AddressOutOfRange.is)
+returns-in-Ok c = λ packets. rw (sym c.new.ensures, c.in-Ok.is)
 
-pub returns-in-Created : goal.returns-in-Created
+pub returns-in-Err : goal.returns-in-Err
 unfolding play_asked
-returns-in-Created c = λ packets. rw (sym c.new-made.ensures.0, c.in-Created.is)
+returns-in-Err c = λ packets. rw (sym c.new.ensures, c.in-Err.is)

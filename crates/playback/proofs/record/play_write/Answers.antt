@@ -4,4 +4,4 @@ use Rattle.playback.proofs.record.play_write.Goals as goal
 
 pub returns : goal.returns
 unfolding play_asked
-returns c = λ packets. rw c.burst-after.ensures
+returns c = λ packets. rw c.burst.ensures

@@ -8,7 +8,7 @@ returns c =
     let x = c.args in
     one_played (state_at x.session x.left.now x.packets.now x.out.now x.at) c.requires c.play_found-played.result
     c.record_at-found.ensures
-    c.used_by-used.ensures
+    c.used_by.ensures
     c.play_found-played.ensures
     (c.session_after-after.ensures _)
-    c.put_printed_line-next.ensures
+    c.put_printed_line.ensures

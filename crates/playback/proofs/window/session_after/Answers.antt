@@ -13,10 +13,4 @@ as_number false = refl
 
 pub returns : goal.returns
 unfolding session_after
-returns c = λ packets.
-    rw (
-      c.wrapping_add_u64.ensures.value,
-      c.wrapping_add_u64-2.ensures.value,
-      c.is_refused-refusal.ensures,
-      as_number (is_refused (answer_reply c.args.played.answer)),
-    )
+returns c = λ packets. rw (c.is_refused-refusal.ensures, as_number (is_refused (answer_reply c.args.played.answer)))
