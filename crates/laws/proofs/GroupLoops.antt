@@ -5,10 +5,10 @@ use mathlib.Core.Path.{◌≡◌, refl, sym, ap, ◌∙◌}
 use mathlib.Core.List.{List}
 use Prim.Native.Nat.{ℕ, ◌+◌, ◌*◌, ◌≤◌, ◌<◌}
 use native.Mathlib.Omega.{arith}
-use lib.ListN.{length}
+use lib.ListN.{length, take, drop}
 use Rattle.laws.specs.Buffers.{written}
 use Rattle.laws.specs.Groups.{groups}
-use Rattle.laws.proofs.Buffers.{written_nil, run}
+use Rattle.laws.proofs.Buffers.{written_nil}
 use Rattle.laws.proofs.Groups.{group_stored}
 
 -- after `g` of `count` turns the slice `before` has become `after`: it holds the first g groups
@@ -26,7 +26,7 @@ stored_none size f l d count = record { bound = omega arith; same = refl; conten
 -- there
 pub stored_more : {size out : ℕ} {f : List ℕ → List ℕ} {l d b e : List ℕ} {count g : ℕ} → ((group : List ℕ) → length group ≡ size → length (f group) ≡ out)
     → count * size ≤ length l → count * out ≤ length d → g < count → Stored size f l d count g b
-    → length e ≡ length b → e ≡ written b (out * g) (f (run size (size * g) l)) → Stored size f l d count (g + 1) e
+    → length e ≡ length b → e ≡ written b (out * g) (f (take size (drop (size * g) l))) → Stored size f l d count (g + 1) e
 stored_more {size} {out} {f} {l} {d} {b} {e} {count} {g} turned whole room h so kept more =
     record {
       bound = omega arith;

@@ -12,7 +12,7 @@ use lib.Seq.{length-take-le, drop-drop, take_at, drop_at}
 use Rattle.laws.specs.Buffers.{written}
 use Rattle.laws.specs.Elements.{AllBelow}
 use Rattle.laws.specs.Groups.{groups}
-use Rattle.laws.proofs.Buffers.{written_more, run, run_eq}
+use Rattle.laws.proofs.Buffers.{written_more}
 use Rattle.laws.proofs.Elements.{below_from, below_to, below_append}
 
 -- one more group after n
@@ -51,23 +51,22 @@ module _ (size out : ℕ) (f : List ℕ → List ℕ) (turned : (g : List ℕ) �
 
   -- a buffer that holds g groups, and one more group stored after them
   pub group_stored : (l d b e : List ℕ) (g count : ℕ) → g < count → count * size ≤ length l → count * out ≤ length d
-      → b ≡ written d 0 (groups size f g l) → e ≡ written b (out * g) (f (run size (size * g) l)) → e ≡ written d 0 (groups size f (g + 1) l)
+      → b ≡ written d 0 (groups size f g l) → e ≡ written b (out * g) (f (take size (drop (size * g) l))) → e ≡ written d 0 (groups size f (g + 1) l)
   group_stored l d b e g count h whole room eb ee =
       let done = groups size f g l in
-      let group = f (run size (size * g) l) in
+      let part = take size (drop (size * g) l) in
+      let group = f part in
       let elements_fit : suc g * size ≤ count * size = mul-le-mul_right size h in
       let turned_fit : suc g * out ≤ count * out = mul-le-mul_right out h in
       let ld = length-groups g l (omega arith) in
       let at : size * g ≡ g * size = mul_comm size g in
-      let same : take size (drop (size * g) l) ≡ run size (size * g) l = run_eq size (size * g) l (omega arith) in
-      let lr : length (run size (size * g) l) ≡ size =
-      ap length (sym same) ∙ length-take-le size (drop (size * g) l) (let k = length-drop (size * g) l in omega arith) in
-      let lg : length group ≡ out = turned (run size (size * g) l) lr in
+      let lr : length part ≡ size = length-take-le size (drop (size * g) l) (let k = length-drop (size * g) l in omega arith) in
+      let lg : length group ≡ out = turned part lr in
       let place : out * g ≡ 0 + length done = omega arith in
       let next : groups size f (g + 1) l ≡ done ++ group =
       ap (λ (m : ℕ). groups size f m l) (add-one g)
       ∙ next_group size f g l
-      ∙ ap (λ (r : List ℕ). done ++ f r) (ap (λ (m : ℕ). take size (drop m l)) (sym at) ∙ same) in
+      ∙ ap (λ (r : List ℕ). done ++ f r) (ap (λ (m : ℕ). take size (drop m l)) (sym at)) in
       ee
       ∙ ap₂ (λ (r : List ℕ) (m : ℕ). written r m group) eb place
       ∙ written_more d 0 done (omega arith) group (omega arith)

@@ -1,13 +1,11 @@
 -- Laws of packed pixels, for both formats by the laws of groups: a payload's length, and the groups that have room.
 -- Assumes nothing.
 use mathlib.Core.Path.{◌≡◌, refl, ap, ◌∙◌}
-use mathlib.Core.Bool.{Bool, true, false, cond}
 use mathlib.Core.List.{List, [], ◌∷◌, ◌++◌, map}
 use Prim.Native.Nat.{ℕ, ◌+◌, ◌*◌, ◌-◌, ◌/◌, ◌≤◌}
 use native.Mathlib.Nat.{div-mul-le_self}
 use native.Mathlib.Omega.{arith}
-use borrow.Author.Tests.{le-leb, leb-true, leb-false}
-use lib.Dec.{leb}
+use Rattle.std.proofs.Math.Nat.{min-le_left, min-le_right, min-eq_left}
 use lib.ListN.{length, length-append, length-map}
 use Rattle.laws.specs.Buffers.{written}
 use Rattle.laws.specs.Groups.{groups}
@@ -15,7 +13,7 @@ use Rattle.laws.proofs.Groups.{length-groups}
 use Rattle.formats.specs.declared.Format.{Format}
 use Rattle.formats.specs.declared.Format.TheVariants.{Raw10, Raw12}
 use Rattle.packing.specs.Raw.{group_pixels, group_bytes, upper_byte, low_byte, pack_group, pack_groups, payload_of}
-use Rattle.packing.specs.Lengths.{payload_length, least, groups_in_room}
+use Rattle.packing.specs.Lengths.{payload_length, groups_in_room}
 
 -- a group has a byte for each pixel, and one more
 pub byte_more : (format : Format) → group_pixels format + 1 ≡ group_bytes format
@@ -52,20 +50,11 @@ pub payload_small : (format : Format) (width : ℕ) → width ≤ 4096 → paylo
 payload_small Raw10 width h = omega arith
 payload_small Raw12 width h = omega arith
 
--- the smaller of two numbers is at most each of them
-least_le : (a b : ℕ) → (least a b ≤ a) × (least a b ≤ b)
-unfolding least
-least_le a b = go (leb a b) refl
-  where
-    go : (t : Bool) → leb a b ≡ t → (cond t a b ≤ a) × (cond t a b ≤ b)
-    go true e = let h = leb-true a b e in (omega arith, omega arith)
-    go false e = let h = leb-false a b e in (omega arith, omega arith)
-
 -- The groups that have room: the pixels have so many, and so many have room.
 pub groups_whole : (format : Format) (width room : ℕ)
     → (groups_in_room format width room * group_pixels format ≤ width) × (groups_in_room format width room * group_bytes format ≤ room)
-groups_whole Raw10 width room = let h = least_le (width / 4) (room / 5) in (omega arith, omega arith)
-groups_whole Raw12 width room = let h = least_le (width / 2) (room / 3) in (omega arith, omega arith)
+groups_whole Raw10 width room = let w = min-le_left (width / 4) (room / 5) in let r = min-le_right (width / 4) (room / 5) in (omega arith, omega arith)
+groups_whole Raw12 width room = let w = min-le_left (width / 2) (room / 3) in let r = min-le_right (width / 2) (room / 3) in (omega arith, omega arith)
 
 -- without room there is none
 no_group : (format : Format) (width room : ℕ) → room ≡ 0 → groups_in_room format width room ≡ 0
@@ -91,8 +80,8 @@ module _ (format : Format) (pixels : List ℕ) (room : ℕ) where
   -- what is packed is the payload
   whole_payload : payload_length format (length pixels) ≤ room
       → pack_groups format (groups_in_room format (length pixels) room) pixels ≡ payload_of format pixels
-  unfolding payload_of least
-  whole_payload h = rw (le-leb (length pixels / group_pixels format) (room / group_bytes format) (groups_fit format (length pixels) room h))
+  unfolding payload_of
+  whole_payload h = rw (min-eq_left (groups_fit format (length pixels) room h))
 
 -- the same in a buffer
 pub payload_packed : (format : Format) (pixels d : List ℕ) (place : ℕ) {after : List ℕ} → payload_length format (length pixels) ≤ length d - place

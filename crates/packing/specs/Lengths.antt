@@ -1,7 +1,7 @@
 -- How many bytes a payload has, and how many groups of a pixel line have room: for the functions that the packet
 -- writer calls, which the papers do not name.
 -- Assumes nothing.
-use Rattle.std.specs.Prelude.{cond, ℕ, ◌*◌, ◌/◌, leb}
+use Rattle.std.specs.Prelude.{ℕ, ◌*◌, ◌/◌, min}
 use Rattle.formats.specs.declared.Format.{Format}
 use Rattle.packing.specs.Raw.{group_pixels, group_bytes}
 
@@ -9,10 +9,6 @@ use Rattle.packing.specs.Raw.{group_pixels, group_bytes}
 abbrev pub payload_length : Format → ℕ → ℕ
 payload_length format width = width / group_pixels format * group_bytes format
 
--- the smaller of two numbers
-unfoldable pub least : ℕ → ℕ → ℕ
-least a b = cond (leb a b) a b
-
 -- the whole groups of so many pixels, as many as have room in so many bytes
 abbrev pub groups_in_room : Format → ℕ → ℕ → ℕ
-groups_in_room format width room = least (width / group_pixels format) (room / group_bytes format)
+groups_in_room format width room = min (width / group_pixels format) (room / group_bytes format)

@@ -1,18 +1,11 @@
 // Pixels packed group by group: four in five bytes as RAW10, two in three as RAW12.
-ghost use Rattle.std.specs.Prelude.{◌≡◌, [], ◌∷◌, ◌+◌, ◌*◌, ◌-◌, ◌≤◌, length};
+ghost use Rattle.std.specs.Prelude.{◌≡◌, [], ◌∷◌, ◌+◌, ◌*◌, ◌-◌, ◌≤◌, length, take, drop};
 ghost use Rattle.laws.specs.Buffers.{written};
 ghost use Rattle.formats.specs.declared.Format.TheVariants.{Raw10, Raw12};
-ghost use Rattle.packing.specs.Raw.{pack_group, pack_groups};
-ghost use Rattle.packing.specs.Lengths.{least, groups_in_room};
+ghost use Rattle.packing.specs.Raw.{group_pixels, group_bytes, pack_group, pack_groups};
+ghost use Rattle.packing.specs.Lengths.{groups_in_room};
 
 use formats::Format;
-
-// The smaller of two numbers.
-fn least_of(a: usize, b: usize) -> usize
-    ensures { result ≡ least a b }
-{
-    if a <= b { a } else { b }
-}
 
 // Four pixels in five bytes, from `o` on.
 fn put_four(part: &mut [u8], o: usize, a: u16, b: u16, c: u16, d: u16)
@@ -36,36 +29,38 @@ fn put_two(part: &mut [u8], o: usize, a: u16, b: u16)
     part[o + 2] = (a % 16 + 16 * (b % 16)) as u8;
 }
 
-// Packs so many groups of a pixel line at the start of `part`, as RAW10.
-fn pack_raw10(pixels: &[u16], part: &mut [u8], count: usize)
-    requires { (count * 4 ≤ length pixels.now) × (count * 5 ≤ length part.old) }
-    ensures { part.new ≡ written part.old 0 (pack_groups Raw10 count pixels.now) }
+// The group of pixels from `i` on in its bytes, from `o` on.
+fn put_group(format: Format, pixels: &[u16], i: usize, part: &mut [u8], o: usize)
+    requires { (i + group_pixels format ≤ length pixels.now) × (o + group_bytes format ≤ length part.old) }
+    ensures { part.new ≡ written part.old o
+        (pack_group format (take (group_pixels format) (drop i pixels.now))) }
 {
-    let mut g = 0;
-    while g < count {
-        let i = 4 * g;
-        put_four(
+    match format {
+        Format::Raw10 => put_four(
             part,
-            5 * g,
+            o,
             pixels[i],
             pixels[i + 1],
             pixels[i + 2],
             pixels[i + 3],
-        );
-        g += 1;
+        ),
+        Format::Raw12 => put_two(part, o, pixels[i], pixels[i + 1]),
     }
 }
 
-// The same as RAW12.
-fn pack_raw12(pixels: &[u16], part: &mut [u8], count: usize)
-    requires { (count * 2 ≤ length pixels.now) × (count * 3 ≤ length part.old) }
-    ensures { part.new ≡ written part.old 0 (pack_groups Raw12 count pixels.now) }
+// Packs so many groups of a pixel line at the start of `part`, each of PIXELS pixels in BYTES bytes.
+fn pack_count<const PIXELS: usize, const BYTES: usize>(
+    format: Format,
+    pixels: &[u16],
+    part: &mut [u8],
+    count: usize,
+)
+    requires sizes { (PIXELS ≡ group_pixels format) × (BYTES ≡ group_bytes format) }
+    requires room { (count * PIXELS ≤ length pixels.now) × (count * BYTES ≤ length part.old) }
+    ensures { part.new ≡ written part.old 0 (pack_groups format count pixels.now) }
 {
-    let mut g = 0;
-    while g < count {
-        let i = 2 * g;
-        put_two(part, 3 * g, pixels[i], pixels[i + 1]);
-        g += 1;
+    for g in 0..count {
+        put_group(format, pixels, PIXELS * g, part, BYTES * g);
     }
 }
 
@@ -77,8 +72,12 @@ fn pack(format: Format, pixels: &[u16], part: &mut [u8])
         pixels.now) }
 {
     match format {
-        Format::Raw10 => pack_raw10(pixels, part, least_of(pixels.len() / 4, part.len() / 5)),
-        Format::Raw12 => pack_raw12(pixels, part, least_of(pixels.len() / 2, part.len() / 3)),
+        Format::Raw10 => {
+            pack_count::<4, 5>(format, pixels, part, (pixels.len() / 4).min(part.len() / 5))
+        }
+        Format::Raw12 => {
+            pack_count::<2, 3>(format, pixels, part, (pixels.len() / 2).min(part.len() / 3))
+        }
     }
 }
 

@@ -1,9 +1,9 @@
 // A payload unpacked group by group: five bytes to four pixels as RAW10, three to two as RAW12.
-ghost use Rattle.std.specs.Prelude.{◌≡◌, [], ◌∷◌, ◌+◌, ◌*◌, ◌/◌, ◌^◌, ◌≤◌, ◌<◌, length};
+ghost use Rattle.std.specs.Prelude.{◌≡◌, [], ◌∷◌, ◌+◌, ◌*◌, ◌/◌, ◌^◌, ◌≤◌, ◌<◌, length, take, drop};
 ghost use Rattle.laws.specs.Buffers.{written};
 ghost use Rattle.formats.specs.declared.Format.TheVariants.{Raw10, Raw12};
 ghost use Rattle.packing.specs.Raw.{group_pixels, group_bytes};
-ghost use Rattle.unpacking.specs.Pixels.{unpack_group, pixels_of};
+ghost use Rattle.unpacking.specs.Pixels.{unpack_group, unpack_groups, pixels_of};
 ghost use Rattle.unpacking.specs.Words.{spread_pairs};
 
 use formats::Format;
@@ -42,39 +42,39 @@ fn put_two(pixels: &mut [u16], o: usize, a: u8, b: u8, low: u8)
     pixels[o + 1] = 16 * (b as u16) + ((low / 16) as u16);
 }
 
-// Unpacks the whole groups of a RAW10 payload to the start of `pixels`.
-fn unpack_raw10(payload: &[u8], pixels: &mut [u16])
-    requires { length payload.now / 5 * 4 ≤ length pixels.old }
-    ensures { pixels.new ≡ written pixels.old 0 (pixels_of Raw10 payload.now) }
+// The pixels of the group of bytes from `i` on, stored from `o` on.
+fn put_group(format: Format, payload: &[u8], i: usize, pixels: &mut [u16], o: usize)
+    requires { (i + group_bytes format ≤ length payload.now) × (o + group_pixels format ≤ length pixels.old) }
+    ensures { pixels.new ≡ written pixels.old o
+        (unpack_group format (take (group_bytes format) (drop i payload.now))) }
 {
-    let count = payload.len() / 5;
-    let mut g = 0;
-    while g < count {
-        let i = 5 * g;
-        put_four(
+    match format {
+        Format::Raw10 => put_four(
             pixels,
-            4 * g,
+            o,
             payload[i],
             payload[i + 1],
             payload[i + 2],
             payload[i + 3],
             payload[i + 4],
-        );
-        g += 1;
+        ),
+        Format::Raw12 => put_two(pixels, o, payload[i], payload[i + 1], payload[i + 2]),
     }
 }
 
-// The same for a RAW12 payload.
-fn unpack_raw12(payload: &[u8], pixels: &mut [u16])
-    requires { length payload.now / 3 * 2 ≤ length pixels.old }
-    ensures { pixels.new ≡ written pixels.old 0 (pixels_of Raw12 payload.now) }
+// Unpacks so many groups of a payload to the start of `pixels`, each of BYTES bytes to PIXELS pixels.
+fn unpack_count<const BYTES: usize, const PIXELS: usize>(
+    format: Format,
+    payload: &[u8],
+    pixels: &mut [u16],
+    count: usize,
+)
+    requires sizes { (BYTES ≡ group_bytes format) × (PIXELS ≡ group_pixels format) }
+    requires room { (count * BYTES ≤ length payload.now) × (count * PIXELS ≤ length pixels.old) }
+    ensures { pixels.new ≡ written pixels.old 0 (unpack_groups format count payload.now) }
 {
-    let count = payload.len() / 3;
-    let mut g = 0;
-    while g < count {
-        let i = 3 * g;
-        put_two(pixels, 2 * g, payload[i], payload[i + 1], payload[i + 2]);
-        g += 1;
+    for g in 0..count {
+        put_group(format, payload, BYTES * g, pixels, PIXELS * g);
     }
 }
 
@@ -84,7 +84,7 @@ pub(crate) fn unpack(format: Format, payload: &[u8], pixels: &mut [u16])
     ensures { pixels.new ≡ written pixels.old 0 (pixels_of format payload.now) }
 {
     match format {
-        Format::Raw10 => unpack_raw10(payload, pixels),
-        Format::Raw12 => unpack_raw12(payload, pixels),
+        Format::Raw10 => unpack_count::<5, 4>(format, payload, pixels, payload.len() / 5),
+        Format::Raw12 => unpack_count::<3, 2>(format, payload, pixels, payload.len() / 3),
     }
 }
