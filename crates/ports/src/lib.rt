@@ -40,6 +40,6 @@ pub fn mask_of_port(port: u8) -> u8
 pub fn are_several(mask: u8) -> bool
     ensures { result ≡ several_ports mask }
 {
-    let count = mask % 2 + mask / 2 % 2 + mask / 4 % 2 + mask / 8 % 2;
+    let count = (mask % 16).count_ones();
     2 <= count
 }

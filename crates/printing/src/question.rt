@@ -53,6 +53,8 @@ fn put_question(out: &mut [u8], at: usize, address: u8, rest: &[u8]) -> usize
     buffers::put_bytes(out, next, rest)
 }
 
+// The two questions stay two functions: they share put_question, and one over both would need a trait for what is found
+// and a law for its text, which is no plainer than four lines each.
 pub(crate) fn put_write_question(
     out: &mut [u8],
     at: usize,
