@@ -59,6 +59,7 @@ pub fn play_window(
     let mut session = session;
     let mut used = 0;
     let mut next = at;
+    // (A `while`: how far a record goes is known when it was played, and no iterator of slices takes such steps.)
     while window::may_play(
         session,
         buffers::bytes_from(window, used),
