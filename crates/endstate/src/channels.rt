@@ -17,7 +17,7 @@ use hub::Hub;
 use origins::RegistersWithOrigins;
 use registers::{bits, map};
 
-// The lines that set a port's route, 0 for none.
+// The lines that set a port's route, 0 for none (the numbers of origins).
 #[derive(Clone, Copy)]
 pub struct PortLines {
     pub forwarding: u64,

@@ -21,7 +21,7 @@ pub struct NumberedWrite {
 }
 
 // The origins of the registers at an offset: the shared one's and each port's. 0 is none, the start value stands: lines
-// and records are counted from 1. (Numbers, not options: the theorems EveryOriginKept and EveryNumberMeans are on them.)
+// and records are counted from 1. (Numbers and no options: EveryOriginKept and EveryNumberMeans speak of them.)
 #[derive(Clone, Copy)]
 pub struct OffsetOrigins {
     pub shared: u64,
