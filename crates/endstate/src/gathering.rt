@@ -5,7 +5,7 @@ ghost use Rattle.endstate.specs.Gathering.{gathered_of, with_origin, gathered_on
 use crate::lines;
 use crate::lines::Lines;
 
-// The lines among some origins, and whether one of these is none.
+// The lines among some origins, and whether one of these is none. (No Option of the lines: they are kept beside it.)
 #[derive(Clone, Copy)]
 pub struct Gathered {
     pub lines: Lines,

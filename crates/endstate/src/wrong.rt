@@ -72,7 +72,7 @@ fn unset_ports(end: &EndState) -> u64
     count_below(4, |port| unset::not_set_up(end, port))
 }
 
-// All of them.
+// All of them, both formats on both outputs. (A loop over formats and outputs would be no plainer than the sum.)
 pub fn count(end: &EndState) -> u64
     ensures { result ≡ wrong_count end.now.hub end.now.state }
 {

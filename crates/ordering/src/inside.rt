@@ -7,6 +7,7 @@ use crate::kinds;
 use crate::kinds::WriteKind;
 
 // The writes so far: how many, whether there was a selection, and how many up to the last selection or per-port write.
+// (No Option of `end`: a per-port write before the first selection moves `end` alone.)
 #[derive(Clone, Copy)]
 pub struct Extent {
     pub count: u64,
