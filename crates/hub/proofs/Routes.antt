@@ -1,11 +1,9 @@
 -- The route of a port by its cases, and what it depends on.
 -- Assumes nothing.
 use mathlib.Core.Path.{◌≡◌}
-use mathlib.Core.Bool.{true, false}
-use Prim.Native.Nat.{ℕ, ◌+◌, ◌≤◌, ◌<◌}
+use Prim.Native.Nat.{ℕ, ◌≤◌, ◌<◌}
 use borrow.Author.Tests.{lt-ltb, le-ltb}
 use lib.ListN.{length}
-use Rattle.laws.specs.Bits.{digit, bit}
 use Rattle.laws.specs.Reply.{refused, given}
 use Rattle.formats.specs.declared.Format.{Format}
 use Rattle.formats.specs.declared.Format.TheVariants.{Raw10, Raw12}
@@ -13,7 +11,7 @@ use Rattle.registers.specs.declared.RegisterFile.{RegisterFile}
 use Rattle.registers.specs.RegisterMap.{FWD_CTL1, RAW10_ID, RAW12_ID}
 use Rattle.registers.specs.RegisterFiles.{shared_at}
 use Rattle.registers.proofs.RegisterFiles.{no_page}
-use Rattle.hub.specs.Routes.{off, output, data_identifier, virtual_channel, port_route, route_of}
+use Rattle.hub.specs.Routes.{data_identifier, port_route, route_of}
 
 -- there is no port above 3
 pub no_identifier : (file : RegisterFile) (port : ℕ) (format : Format) → length file.pages ≡ 1024 → 3 < port
@@ -29,17 +27,6 @@ module _ (file : RegisterFile) (port : ℕ) where
   pub route_given : port ≤ 3 → route_of file port ≡ given (port_route file port)
   unfolding route_of
   route_given h = rw (le-ltb 3 port h)
-
-  pub route_off : bit (4 + port) (shared_at file FWD_CTL1) ≡ true → port_route file port ≡ off
-  unfolding port_route
-  route_off e = rw e
-
-  pub route_output : bit (4 + port) (shared_at file FWD_CTL1) ≡ false
-      → port_route file port
-      ≡ output (digit port (shared_at file FWD_CTL1))
-      (virtual_channel (data_identifier file port Raw10)) (virtual_channel (data_identifier file port Raw12))
-  unfolding port_route
-  route_output e = rw e
 
 -- a route depends on FWD_CTL1 and the pages alone
 pub same_route : (a b : RegisterFile) → shared_at a FWD_CTL1 ≡ shared_at b FWD_CTL1 → a.pages ≡ b.pages

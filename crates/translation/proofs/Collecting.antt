@@ -10,7 +10,7 @@ use lib.Seq.{take_all}
 use Rattle.translation.specs.declared.PortDevice.{PortDevice}
 use Rattle.translation.specs.declared.Devices.{Devices}
 use Rattle.translation.specs.declared.Devices.TheVariants.{One, Two, Three, Four}
-use Rattle.translation.specs.Translation.{on_port, on_ports, receivers, found, reached, devices_of}
+use Rattle.translation.specs.Translation.{on_port, on_ports, receivers}
 use Rattle.translation.specs.Collecting.{collected}
 
 receivers_append : (a b : List (Option PortDevice)) → receivers (a ++ b) ≡ receivers a ++ receivers b
@@ -40,12 +40,6 @@ collected_next before a h e f =
     let all = before ++ (a ∷ []) in
     let few : length (receivers all) ≤ 4 = omega (arith, length-receivers all, length-append before (a ∷ [])) in
     f ∙ rw (e, ← receivers_append before (a ∷ [])) (take_all 4 (receivers all) few)
-
-pub reached_some : (devices : Devices) → reached (devices_of devices) ≡ found (devices_of devices)
-reached_some (One a) = refl
-reached_some (Two a b) = refl
-reached_some (Three a b c) = refl
-reached_some (Four a b c d) = refl
 
 -- one port more
 pub one_port_more : (pages : List ℕ) (address port : ℕ) → port < 4
