@@ -122,17 +122,6 @@ module _ (state : RegistersWithOrigins) where
   one_each [] = refl
   one_each (device ∷ devices) = ap suc (one_each devices)
 
-module _ (hub : Hub) (state : RegistersWithOrigins) (address : ℕ) {reply : Reply (Addressed (List PortDevice))}
-    (e : reply ≡ who_hears_write hub address) where
-  pub lines_by : lines_row (rising_lines (devices_origins state (hearers reply)))
-      ≡ lines_row (address_lines hub state address)
-  unfolding address_lines
-  lines_by = rw e
-
-  pub aliases_by : gathered_of (alias_origins state (hearers reply))
-      ≡ gathered_of (alias_origins state (hearers (who_hears_write hub address)))
-  aliases_by = rw e
-
 pub address_by : (hub : Hub) (state : RegistersWithOrigins) (address : ℕ) {mask : ℕ} {gathered : Gathered}
     {clash : Option Clash} → mask ≡ port_mask (address_reaches hub address)
     → gathered ≡ gathered_of (alias_origins state (hearers (who_hears_write hub address)))

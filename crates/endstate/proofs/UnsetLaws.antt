@@ -7,7 +7,6 @@ use borrow.Author.Tests.{eq-eqb, ne_eqb, eqb-true, eqb-false, not-true}
 use lib.Dec.{eqb}
 use Rattle.laws.proofs.Absurd.{zero_not_one}
 use Rattle.laws.proofs.Bools.{both}
-use Rattle.hub.specs.declared.Hub.{Hub}
 use Rattle.origins.specs.declared.RegistersWithOrigins.{RegistersWithOrigins}
 use Rattle.origins.specs.Origins.{port_register}
 use Rattle.origins.specs.KeptOrigins.{kept_number}
@@ -23,20 +22,6 @@ module _ (state : RegistersWithOrigins) (port offset : ℕ) {number : ℕ}
 
   pub no_origin : number ≡ 0 → has_origin state port offset ≡ false
   no_origin z = rw (← e, eq-eqb number 0 z)
-
-module _ (hub : Hub) (state : RegistersWithOrigins) (port : ℕ) where
-  pub not-forwarded : is_forwarded hub port ≡ false → false ≡ not_set_up hub state port
-  unfolding not_set_up
-  not-forwarded e = rw e
-
-  pub reached : is_forwarded hub port ≡ true → was_reached state port ≡ true → false ≡ not_set_up hub state port
-  unfolding not_set_up
-  reached e r = rw (e, r)
-
-  pub set_up_by : is_forwarded hub port ≡ true → was_reached state port ≡ false
-      → another_reached state port ≡ not_set_up hub state port
-  unfolding not_set_up
-  set_up_by e r = rw (e, r)
 
 -- a port was reached exactly where one of its registers has an origin
 module _ (state : RegistersWithOrigins) (port : ℕ) where
