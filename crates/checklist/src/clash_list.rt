@@ -2,177 +2,134 @@
 // that look wrong are things of the list, and those that are meant stand under a heading of their own.
 use crate::typed::File;
 use crate::{things, typed};
-use endstate::findings::{Clash, Grade};
+use endstate::findings::Grade;
 use endstate::lines::Lines;
-use endstate::{addresses, channels};
+use endstate::{EndState, addresses, channels};
 use formats::Format;
-use hub::Hub;
-use origins::RegistersWithOrigins;
-use page::{Listed, Pen};
+use page::Pen;
 use registers::bits;
+use std::io;
+use std::io::Write;
 use words::kinds::Kind;
+use words::{NamedPorts, OutputChannel, Ports};
 
-#[derive(Clone, Copy)]
-pub enum Wanted {
-    Wrong,
-    Meant,
-}
-
-// Whether the clash is wanted in the list.
-fn is_wanted(wanted: Wanted, clash: Clash) -> bool {
-    let grade = clash.grade;
+// How a clash begins: with its number, or below the heading, which stands before the first clash that is meant.
+fn begin(pen: &mut Pen, count: &mut u64, wanted: Grade) -> io::Result<()> {
     match wanted {
-        Wanted::Wrong => match grade {
-            Grade::NoFinding => false,
-            Grade::Meant => false,
-            Grade::Wrong => true,
-        },
-        Wanted::Meant => match grade {
-            Grade::NoFinding => false,
-            Grade::Meant => true,
-            Grade::Wrong => false,
-        },
+        Grade::Wrong => things::number(pen, *count)?,
+        Grade::Meant => {
+            if *count == 0 {
+                writeln!(pen, "\nShared, perhaps as meant")?;
+            }
+            write!(pen, "  ")?;
+        }
     }
-}
-
-// The heading, before the first clash that is meant.
-fn heading(list: Listed) -> Pen {
-    if list.count != 0 {
-        return list.pen;
-    }
-    page::line(page::line_end(list.pen), b"Shared, perhaps as meant")
-}
-
-// How a clash begins: with its number, or below the heading.
-fn begin(list: Listed, wanted: Wanted) -> Pen {
-    match wanted {
-        Wanted::Wrong => things::number(list),
-        Wanted::Meant => page::text(heading(list), b"  "),
-    }
+    *count = count.wrapping_add(1);
+    Ok(())
 }
 
 // The lines as they are typed.
-fn typed_lines(pen: Pen, file: File<'_>, lines: Lines) -> Pen {
-    let mut written = pen;
-    for i in 0..12 {
-        written = typed::line(written, file, lines.numbers[i]);
+fn typed_lines(pen: &mut Pen, file: File<'_>, lines: Lines) -> io::Result<()> {
+    for number in lines.numbers {
+        typed::line(pen, file, number)?;
     }
-    written
+    Ok(())
 }
 
-// A port that has its channel as the chip starts has no line to show.
-fn started(pen: Pen, state: RegistersWithOrigins, ports: u8, format: Format, port: u8) -> Pen {
-    let lines = channels::port_lines(state, port);
-    let mut line = lines.raw10;
-    match format {
-        Format::Raw10 => {}
-        Format::Raw12 => {
-            line = lines.raw12;
+// The ports that have their channel as the chip starts, and so no line to show.
+fn started(pen: &mut Pen, end: &EndState, ports: u8, format: Format) -> io::Result<()> {
+    for port in 0..4u8 {
+        let lines = channels::port_lines(end.state, port);
+        let line = match format {
+            Format::Raw10 => lines.raw10,
+            Format::Raw12 => lines.raw12,
+        };
+        if line == 0 && bits::is_set(ports, port) {
+            writeln!(
+                pen,
+                "        port {port} has that channel as the chip starts"
+            )?;
         }
     }
-    if line != 0 || !bits::is_set(ports, port) {
-        return pen;
-    }
-    let named = page::numbered(pen, b"        port ", port as u64);
-    page::line(named, b" has that channel as the chip starts")
+    Ok(())
 }
 
-fn all_started(pen: Pen, state: RegistersWithOrigins, ports: u8, format: Format) -> Pen {
-    let port_0 = started(pen, state, ports, format, 0);
-    let port_1 = started(port_0, state, ports, format, 1);
-    let port_2 = started(port_1, state, ports, format, 2);
-    started(port_2, state, ports, format, 3)
-}
-
+// The clash on an output and channel, if it is wanted.
 fn channel(
-    list: Listed,
-    wanted: Wanted,
+    pen: &mut Pen,
+    count: &mut u64,
+    wanted: Grade,
     file: File<'_>,
-    hub: Hub,
-    state: RegistersWithOrigins,
-    format: Format,
-    output: u8,
-    channel: u8,
-) -> Listed {
-    let clash = channels::same_channel(hub, state, format, output, channel);
-    if !is_wanted(wanted, clash) {
-        return list;
+    end: &EndState,
+    shared: OutputChannel,
+) -> io::Result<()> {
+    match channels::same_channel(end, shared.format, shared.output, shared.channel) {
+        Some(clash) if clash.grade == wanted => {
+            begin(pen, count, wanted)?;
+            write!(pen, "Ports {} share {shared}", Ports(clash.ports))?;
+            words::named(pen, Kind::SameChannel)?;
+            typed_lines(pen, file, clash.lines)?;
+            started(pen, end, clash.ports, shared.format)
+        }
+        _ => Ok(()),
     }
-    let begun = page::text(begin(list, wanted), b"Ports ");
-    let words = words::sharing(begun, clash.ports, format, output, channel);
-    let named = words::named(words, Kind::SameChannel);
-    let typed = typed_lines(named, file, clash.lines);
-    page::one_more(list, all_started(typed, state, clash.ports, format))
-}
-
-fn output(
-    list: Listed,
-    wanted: Wanted,
-    file: File<'_>,
-    hub: Hub,
-    state: RegistersWithOrigins,
-    format: Format,
-    output: u8,
-) -> Listed {
-    let channel_0 = channel(list, wanted, file, hub, state, format, output, 0);
-    let channel_1 = channel(channel_0, wanted, file, hub, state, format, output, 1);
-    let channel_2 = channel(channel_1, wanted, file, hub, state, format, output, 2);
-    channel(channel_2, wanted, file, hub, state, format, output, 3)
 }
 
 fn all_channels(
-    list: Listed,
-    wanted: Wanted,
+    pen: &mut Pen,
+    count: &mut u64,
+    wanted: Grade,
     file: File<'_>,
-    hub: Hub,
-    state: RegistersWithOrigins,
-) -> Listed {
-    let raw10_0 = output(list, wanted, file, hub, state, Format::Raw10, 0);
-    let raw10_1 = output(raw10_0, wanted, file, hub, state, Format::Raw10, 1);
-    let raw12_0 = output(raw10_1, wanted, file, hub, state, Format::Raw12, 0);
-    output(raw12_0, wanted, file, hub, state, Format::Raw12, 1)
-}
-
-fn address(
-    list: Listed,
-    wanted: Wanted,
-    file: File<'_>,
-    hub: Hub,
-    state: RegistersWithOrigins,
-    address: u8,
-) -> Listed {
-    let clash = addresses::same_address(hub, state, address);
-    if !is_wanted(wanted, clash) {
-        return list;
+    end: &EndState,
+) -> io::Result<()> {
+    for format in [Format::Raw10, Format::Raw12] {
+        for output in 0..2u8 {
+            for number in 0..4u8 {
+                let shared = OutputChannel {
+                    format,
+                    output,
+                    channel: number,
+                };
+                channel(pen, count, wanted, file, end, shared)?;
+            }
+        }
     }
-    let begun = page::text(begin(list, wanted), b"Address ");
-    let words = words::reaching(begun, clash.ports, address);
-    let named = words::named(words, Kind::SameAddress);
-    page::one_more(list, typed_lines(named, file, clash.lines))
+    Ok(())
 }
 
 fn all_addresses(
-    list: Listed,
-    wanted: Wanted,
+    pen: &mut Pen,
+    count: &mut u64,
+    wanted: Grade,
     file: File<'_>,
-    hub: Hub,
-    state: RegistersWithOrigins,
-) -> Listed {
-    let mut next = list;
-    for number in 0..128 {
-        next = address(next, wanted, file, hub, state, number);
+    end: &EndState,
+) -> io::Result<()> {
+    for address in 0..128u8 {
+        match addresses::same_address(end, address) {
+            Some(clash) if clash.grade == wanted => {
+                begin(pen, count, wanted)?;
+                write!(
+                    pen,
+                    "Address {address:02X} reaches {}",
+                    NamedPorts(clash.ports)
+                )?;
+                words::named(pen, Kind::SameAddress)?;
+                typed_lines(pen, file, clash.lines)?;
+            }
+            _ => {}
+        }
     }
-    next
+    Ok(())
 }
 
 // All that are wanted.
 pub fn clash_list(
-    list: Listed,
-    wanted: Wanted,
+    pen: &mut Pen,
+    count: &mut u64,
+    wanted: Grade,
     file: File<'_>,
-    hub: Hub,
-    state: RegistersWithOrigins,
-) -> Listed {
-    let channels = all_channels(list, wanted, file, hub, state);
-    all_addresses(channels, wanted, file, hub, state)
+    end: &EndState,
+) -> io::Result<()> {
+    all_channels(pen, count, wanted, file, end)?;
+    all_addresses(pen, count, wanted, file, end)
 }

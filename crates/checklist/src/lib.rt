@@ -3,7 +3,7 @@
 #![tactic(auto)]
 
 pub mod clash_list;
-mod meaning;
+pub mod meaning;
 pub mod notes;
 pub mod things;
 pub mod typed;

@@ -1,73 +1,87 @@
 // What a register of a port holds, in words, for a value that was replaced: 32 by 33.
 use page::Pen;
 use registers::bits;
+use std::io::Write;
+use std::{fmt, io};
 
-// Two bytes, one replaced by the other.
-fn byte_by(pen: Pen, words: &[u8], old: u8, new: u8) -> Pen {
-    let first = page::hexed(pen, words, old);
-    page::hexed(first, b" by ", new)
+// The register at an offset of a port, what it held and what a write puts there.
+#[derive(Clone, Copy)]
+pub struct Change {
+    pub offset: u8,
+    pub old: u8,
+    pub new: u8,
 }
 
 // The register itself, where its new value means nothing else.
-fn register_by(pen: Pen, offset: u8, old: u8, new: u8) -> Pen {
-    let named = page::hexed(pen, b"register ", offset);
-    byte_by(named, b": ", old, new)
+fn register_by(pen: &mut Pen, change: Change) -> io::Result<()> {
+    let Change { offset, old, new } = change;
+    write!(pen, "register {offset:02X}: {old:02X} by {new:02X}")
 }
 
 // An address, in bits 7 to 1.
-fn address_by(pen: Pen, words: &[u8], offset: u8, old: u8, new: u8) -> Pen {
-    if old / 2 == new / 2 {
-        return register_by(pen, offset, old, new);
+fn address_by(pen: &mut Pen, whose: &str, change: Change) -> io::Result<()> {
+    let old = change.old / 2;
+    let new = change.new / 2;
+    if old == new {
+        return register_by(pen, change);
     }
-    byte_by(pen, words, old / 2, new / 2)
+    write!(pen, "{whose} own address {old:02X} by {new:02X}")
 }
 
 // The address of an alias; one of 0 is off.
-fn alias(pen: Pen, address: u8) -> Pen {
-    if address == 0 {
-        return page::text(pen, b"off");
+#[derive(Clone, Copy, PartialEq, Eq)]
+struct Alias(u8);
+
+impl fmt::Display for Alias {
+    fn fmt<W: fmt::Write>(&self, f: &mut fmt::Formatter<W>) -> fmt::Result {
+        match self.0 {
+            0 => write!(f, "off"),
+            address => write!(f, "{address:02X}"),
+        }
     }
-    page::hex(pen, address)
 }
 
-fn alias_by(pen: Pen, words: &[u8], offset: u8, old: u8, new: u8) -> Pen {
-    if old / 2 == new / 2 {
-        return register_by(pen, offset, old, new);
+fn alias_by(pen: &mut Pen, words: &str, change: Change) -> io::Result<()> {
+    let old = Alias(change.old / 2);
+    let new = Alias(change.new / 2);
+    if old == new {
+        return register_by(pen, change);
     }
-    let first = alias(page::text(pen, words), old / 2);
-    alias(page::text(first, b" by "), new / 2)
+    write!(pen, "{words} {old} by {new}")
 }
 
 // A virtual channel, in bits 7 and 6, or the data type, in the others.
-fn channel_by(pen: Pen, words: &[u8], old: u8, new: u8) -> Pen {
-    let named = page::text(pen, words);
+fn channel_by(pen: &mut Pen, format: &str, change: Change) -> io::Result<()> {
+    let Change { old, new, .. } = change;
     if old / 64 == new / 64 {
-        return byte_by(named, b" data type ", old % 64, new % 64);
+        return write!(
+            pen,
+            "{format} data type {:02X} by {:02X}",
+            old % 64,
+            new % 64
+        );
     }
-    let first = page::numbered(named, b" channel ", (old / 64) as u64);
-    page::numbered(first, b" by ", (new / 64) as u64)
+    write!(pen, "{format} channel {} by {}", old / 64, new / 64)
 }
 
-fn pass_through_by(pen: Pen, offset: u8, old: u8, new: u8) -> Pen {
-    if bits::is_set(old, 6) == bits::is_set(new, 6) {
-        return register_by(pen, offset, old, new);
+fn pass_through_by(pen: &mut Pen, change: Change) -> io::Result<()> {
+    match (bits::is_set(change.old, 6), bits::is_set(change.new, 6)) {
+        (false, true) => write!(pen, "pass-through off by on"),
+        (true, false) => write!(pen, "pass-through on by off"),
+        _ => register_by(pen, change),
     }
-    if bits::is_set(new, 6) {
-        return page::text(pen, b"pass-through off by on");
-    }
-    page::text(pen, b"pass-through on by off")
 }
 
-// What a write replaces in the register at an offset of a port.
-pub(crate) fn replaced_by(pen: Pen, offset: u8, old: u8, new: u8) -> Pen {
-    match offset {
-        0x58 => pass_through_by(pen, offset, old, new),
-        0x5B => address_by(pen, b"the serializer's own address ", offset, old, new),
-        0x5C => alias_by(pen, b"the serializer's address ", offset, old, new),
-        0x5D..=0x64 => address_by(pen, b"a camera's own address ", offset, old, new),
-        0x65..=0x6C => alias_by(pen, b"address ", offset, old, new),
-        0x70 => channel_by(pen, b"RAW10", old, new),
-        0x71 => channel_by(pen, b"RAW12", old, new),
-        _ => register_by(pen, offset, old, new),
+// What a write replaces in the register of a port.
+pub(crate) fn replaced_by(pen: &mut Pen, change: Change) -> io::Result<()> {
+    match change.offset {
+        0x58 => pass_through_by(pen, change),
+        0x5B => address_by(pen, "the serializer's", change),
+        0x5C => alias_by(pen, "the serializer's address", change),
+        0x5D..=0x64 => address_by(pen, "a camera's", change),
+        0x65..=0x6C => alias_by(pen, "address", change),
+        0x70 => channel_by(pen, "RAW10", change),
+        0x71 => channel_by(pen, "RAW12", change),
+        _ => register_by(pen, change),
     }
 }

@@ -1,176 +1,186 @@
 // The things that look wrong, on the screen of check, each with the script's lines as they are typed. Only blocks and
 // writes may be many: of each of the two the first are printed.
+use crate::meaning::Change;
 use crate::typed::File;
 use crate::{meaning, typed};
-use endstate::unset;
-use hub::Hub;
-use ordering::ticks::LastTick;
-use origins::RegistersWithOrigins;
-use page::{Listed, Pen};
+use endstate::{EndState, unset};
+use ordering::ticks;
+use ordering::ticks::Ticks;
+use origins::NumberedWrite;
+use page::Pen;
 use registers::map;
-use std::num::wrapping_add_u64;
+use std::io;
+use std::io::Write;
 use words::kinds::Kind;
+use words::{Capital, Source};
 
 // So many blocks and so many writes are printed; those behind them are counted.
 const MOST_PRINTED: u64 = 20;
 
-// The number of the next thing.
-pub(crate) fn number(list: Listed) -> Pen {
-    let line = page::line_end(list.pen);
-    page::text(page::number(line, wrapping_add_u64(list.count, 1)), b" ")
+// The number of the next thing, after so many.
+pub(crate) fn number(pen: &mut Pen, count: u64) -> io::Result<()> {
+    write!(pen, "\n{} ", count.wrapping_add(1))
 }
 
 // A block selects a port again, and replaces something of it. Blocks are the first things.
-pub fn selected_again(list: Listed, file: File<'_>, port: u8, first: u64, again: u64) -> Listed {
-    if MOST_PRINTED <= list.count {
-        return page::one_more(list, list.pen);
-    }
-    let placed = words::first_place(number(list), file.is_trace, again);
-    let selects = page::numbered(placed, b" selects port ", port as u64);
-    let after = page::text(selects, b" again, as ");
-    let did = page::text(words::place(after, file.is_trace, first), b" did");
-    let named = words::named(did, Kind::PortTwice);
-    let typed_first = typed::line(named, file, first);
-    page::one_more(list, typed::line(typed_first, file, again))
-}
-
-// Whether the last block was printed.
-fn was_printed(list: Listed) -> bool {
-    list.count <= MOST_PRINTED
-}
-
-// It does so with a port more.
-pub fn selected_too(list: Listed, file: File<'_>, port: u8, first: u64) -> Pen {
-    if !was_printed(list) {
-        return list.pen;
-    }
-    let selects = page::numbered(list.pen, b"  It selects port ", port as u64);
-    let after = page::text(selects, b" again too, as ");
-    let did = page::text(words::place(after, file.is_trace, first), b" did");
-    typed::line(words::named(did, Kind::PortTwice), file, first)
-}
-
-// What it replaces on a port.
-pub fn replaced(
-    list: Listed,
+pub fn selected_again(
+    pen: &mut Pen,
+    count: &mut u64,
     file: File<'_>,
     port: u8,
-    offset: u8,
-    old: u8,
-    new: u8,
-    origin: u64,
-    write: u64,
-) -> Pen {
-    if !was_printed(list) {
-        return list.pen;
+    first: u64,
+    again: u64,
+) -> io::Result<()> {
+    let before = *count;
+    *count = before.wrapping_add(1);
+    if MOST_PRINTED <= before {
+        return Ok(());
     }
-    let begun = page::numbered(list.pen, b"  On port ", port as u64);
-    let replaces = page::text(begun, b" it replaces ");
-    let meant = meaning::replaced_by(replaces, offset, old, new);
-    let named = words::named(meant, Kind::Replaced);
-    typed::line(typed::line(named, file, origin), file, write)
-}
-
-// A per-port register is written while no port is selected; `before` is how many things stand before the first such.
-pub fn no_port(list: Listed, before: u64, file: File<'_>, offset: u8, write: u64) -> Listed {
-    if wrapping_add_u64(before, MOST_PRINTED) <= list.count {
-        return page::one_more(list, list.pen);
-    }
-    let placed = words::first_place(number(list), file.is_trace, write);
-    let register = page::hexed(placed, b" writes register ", offset);
-    let words = page::text(register, b" while no port is selected");
-    page::one_more(
-        list,
-        typed::line(words::named(words, Kind::NoPort), file, write),
-    )
-}
-
-// Which bit of FWD_CTL1 keeps a port from being forwarded.
-fn not_forwarded(pen: Pen, port: u8) -> Pen {
-    let bit = page::numbered(
+    number(pen, before)?;
+    let source = file.source;
+    let place = Capital(source);
+    write!(
         pen,
-        b"  If no camera is there, it need not be forwarded: bit ",
-        (4 + port % 4) as u64,
-    );
-    page::line(
-        page::hexed(bit, b" of register ", map::FWD_CTL1 as u8),
-        b".",
-    )
+        "{place} {again} selects port {port} again, as {source} {first} did"
+    )?;
+    words::named(pen, Kind::PortTwice)?;
+    typed::line(pen, file, first)?;
+    typed::line(pen, file, again)
 }
 
-// No line selects the port; how one would.
-fn unselected(pen: Pen, port: u8) -> Pen {
-    let selects = page::numbered(pen, b" selects port ", port as u64);
-    let ticked = ports::mask_of_port(port);
-    let typed = page::hexed(
-        selects,
-        b"; WriteI2C(0x4C,0x",
-        16 * (port % 4) + ticked % 16,
-    );
-    page::line(typed, b") would.")
+// It does so with a port more, if it was printed: the last of so many.
+pub fn selected_too(
+    pen: &mut Pen,
+    count: u64,
+    file: File<'_>,
+    port: u8,
+    first: u64,
+) -> io::Result<()> {
+    if MOST_PRINTED < count {
+        return Ok(());
+    }
+    let source = file.source;
+    write!(
+        pen,
+        "  It selects port {port} again too, as {source} {first} did"
+    )?;
+    words::named(pen, Kind::PortTwice)?;
+    typed::line(pen, file, first)
+}
+
+// A write that replaces what another one, the origin, set on a port.
+#[derive(Clone, Copy)]
+pub struct Replacement {
+    pub port: u8,
+    pub change: Change,
+    pub origin: u64,
+    pub write: u64,
+}
+
+// What the block replaces on a port, if it was printed: the last of so many.
+pub fn replaced(
+    pen: &mut Pen,
+    count: u64,
+    file: File<'_>,
+    replacement: Replacement,
+) -> io::Result<()> {
+    if MOST_PRINTED < count {
+        return Ok(());
+    }
+    write!(pen, "  On port {} it replaces ", replacement.port)?;
+    meaning::replaced_by(pen, replacement.change)?;
+    words::named(pen, Kind::Replaced)?;
+    typed::line(pen, file, replacement.origin)?;
+    typed::line(pen, file, replacement.write)
+}
+
+// A per-port register is written while no port is selected; `first` is how many things stand before the first such.
+pub fn no_port(
+    pen: &mut Pen,
+    count: &mut u64,
+    first: u64,
+    file: File<'_>,
+    write: NumberedWrite,
+) -> io::Result<()> {
+    let before = *count;
+    *count = before.wrapping_add(1);
+    if first.wrapping_add(MOST_PRINTED) <= before {
+        return Ok(());
+    }
+    number(pen, before)?;
+    let place = Capital(file.source);
+    let NumberedWrite { number, offset, .. } = write;
+    write!(
+        pen,
+        "{place} {number} writes register {offset:02X} while no port is selected"
+    )?;
+    words::named(pen, Kind::NoPort)?;
+    typed::line(pen, file, number)
 }
 
 // What selects the port: nothing, or a line that sets none of its registers.
-fn selection(pen: Pen, is_trace: bool, port: u8, tick: LastTick) -> Pen {
+fn selection(pen: &mut Pen, source: Source, port: u8, tick: Option<u64>) -> io::Result<()> {
     match tick {
-        LastTick::Never => {
-            if is_trace {
-                return unselected(page::text(pen, b"  No record"), port);
-            }
-            unselected(page::text(pen, b"  No line"), port)
+        None => {
+            let value = 16 * (port % 4) + ports::mask_of_port(port) % 16;
+            writeln!(
+                pen,
+                "  No {source} selects port {port}; WriteI2C(0x4C,0x{value:02X}) would."
+            )
         }
-        LastTick::At(line) => {
-            let placed = words::first_place(page::text(pen, b"  "), is_trace, line);
-            let selects = page::numbered(placed, b" selects port ", port as u64);
-            page::line(selects, b", but none of its registers is set.")
+        Some(line) => {
+            let place = Capital(source);
+            writeln!(
+                pen,
+                "  {place} {line} selects port {port}, but none of its registers is set."
+            )
         }
     }
 }
 
+// A port that is forwarded and was not set up, with the last selection of it, and which bit of FWD_CTL1 keeps it from
+// being forwarded.
 fn unset_port(
-    list: Listed,
+    pen: &mut Pen,
+    count: &mut u64,
     file: File<'_>,
-    state: RegistersWithOrigins,
+    end: &EndState,
     port: u8,
-    tick: LastTick,
-) -> Listed {
-    let begun = page::numbered(number(list), b"Port ", port as u64);
-    let words = page::text(begun, b" is forwarded, but nothing sets it up");
-    let named = words::named(words, Kind::NotSetUp);
-    let typed = typed::line(
-        named,
-        file,
-        origins::shared_origin(state, map::FWD_CTL1 as u8),
-    );
-    let selected = selection(typed, file.is_trace, port, tick);
-    page::one_more(list, not_forwarded(selected, port))
+    tick: Option<u64>,
+) -> io::Result<()> {
+    number(pen, *count)?;
+    *count = count.wrapping_add(1);
+    write!(pen, "Port {port} is forwarded, but nothing sets it up")?;
+    words::named(pen, Kind::NotSetUp)?;
+    let register = map::FWD_CTL1 as u8;
+    typed::line(pen, file, origins::shared_origin(end.state, register))?;
+    selection(pen, file.source, port, tick)?;
+    let bit = 4 + port % 4;
+    write!(pen, "  If no camera is there, it need not be forwarded: ")?;
+    writeln!(pen, "bit {bit} of register {register:02X}.")
 }
 
-// A port that is forwarded and was not set up, with the last selection of it.
+// The ports that are forwarded and were not set up.
 pub fn not_set_up(
-    list: Listed,
+    pen: &mut Pen,
+    count: &mut u64,
     file: File<'_>,
-    hub: Hub,
-    state: RegistersWithOrigins,
-    port: u8,
-    tick: LastTick,
-) -> Listed {
-    if unset::not_set_up(hub, state, port) {
-        return unset_port(list, file, state, port, tick);
+    end: &EndState,
+    ticks: Ticks,
+) -> io::Result<()> {
+    for port in 0..4u8 {
+        if unset::not_set_up(end, port) {
+            unset_port(pen, count, file, end, port, ticks::last_tick(ticks, port))?;
+        }
     }
-    list
+    Ok(())
 }
 
-// How many of the things from `before` on were only counted.
-pub fn more(list: Listed, before: u64) -> Listed {
-    let printed = wrapping_add_u64(before, MOST_PRINTED);
-    if list.count <= printed {
-        return list;
+// How many of the things from `before` on, of so many, were only counted.
+pub fn more(pen: &mut Pen, count: u64, before: u64) -> io::Result<()> {
+    let printed = before.wrapping_add(MOST_PRINTED);
+    if printed < count {
+        writeln!(pen, "\nand {} more like these", count - printed)?;
     }
-    let line = page::line_end(list.pen);
-    let numbered = page::numbered(line, b"and ", list.count - printed);
-    Listed {
-        pen: page::line(numbered, b" more like these"),
-        count: list.count,
-    }
+    Ok(())
 }

@@ -3,6 +3,8 @@
 
 use page::Pen;
 use registers::power_up::PowerUp;
+use std::io;
+use std::io::Write;
 
 pub mod addresses;
 pub mod ended;
@@ -11,33 +13,28 @@ pub mod findings;
 mod grades;
 pub mod routes;
 
-// How the hub starts.
-fn started(pen: Pen, start: PowerUp) -> Pen {
-    match start {
-        PowerUp::Boot => page::text(pen, b",\"start\":\"board\""),
-        PowerUp::Reset => page::text(pen, b",\"start\":\"sheet\""),
-    }
-}
-
 // The object's first fields.
-pub fn begin(pen: Pen, hub: u8, start: PowerUp, writes: u64, any_order: bool) -> Pen {
-    let opened = page::text(pen, b"{\"hub\":");
-    let addressed = fields::quoted_hex(opened, hub);
-    let named = started(addressed, start);
-    let counted = page::numbered(named, b",\"writes\":", writes);
-    let ordered = page::text(counted, b",\"any_order\":");
-    if any_order {
-        return page::text(ordered, b"true");
-    }
-    page::text(ordered, b"false")
+pub fn begin(
+    pen: &mut Pen,
+    hub: u8,
+    start: PowerUp,
+    writes: u64,
+    any_order: bool,
+) -> io::Result<()> {
+    let started = match start {
+        PowerUp::Boot => "board",
+        PowerUp::Reset => "sheet",
+    };
+    write!(pen, "{{\"hub\":\"{hub:02X}\",\"start\":\"{started}\"")?;
+    write!(pen, ",\"writes\":{writes},\"any_order\":{any_order}")
 }
 
 // Its last field begins: the findings.
-pub fn begin_findings(pen: Pen) -> Pen {
-    page::text(pen, b",\"findings\":[")
+pub fn begin_findings(pen: &mut Pen) -> io::Result<()> {
+    write!(pen, ",\"findings\":[")
 }
 
 // The end of the findings and of the object.
-pub fn end(pen: Pen) -> Pen {
-    page::line(pen, b"]}")
+pub fn end(pen: &mut Pen) -> io::Result<()> {
+    writeln!(pen, "]}}")
 }

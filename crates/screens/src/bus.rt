@@ -1,187 +1,163 @@
 // The table of the addresses on the bus: who hears a write, and who answers a read where that is not the same.
 use crate::marks;
 use clashes::addresses as reached;
-use endstate::{addresses, wrong};
-use hub::Hub;
+use endstate::{EndState, addresses, wrong};
 use origins::RegistersWithOrigins;
 use page::Pen;
 use registers::map;
-use std::num::wrapping_add_u8;
-use translation::{Devices, PortDevice, ReadAnswer, Remote, WriteAnswer};
+use std::io::Write;
+use std::{fmt, io};
+use translation::{Addressed, Devices, PortDevice, ReadRefusal, Remote};
+use words::{NamedPorts, Source, ThreeLines};
 
 const LINES_COLUMN: u64 = 33;
 
-// Addresses that a device heard until a write gave its alias another: for each the write that had set the alias and
-// that other one, 0 for none; and 1 where that one replaced it, which looks wrong, else 0.
+// An address that a device heard until a write gave its alias another: the write that had set the alias and that other
+// one, and whether that one replaced it, which looks wrong.
 #[derive(Clone, Copy)]
-pub struct Lost {
-    pub set: [u64; 128],
-    pub changed: [u64; 128],
-    pub wrong: [u8; 128],
+pub struct LostAlias {
+    pub set: u64,
+    pub changed: u64,
+    pub is_wrong: bool,
 }
 
-fn remote_named(pen: Pen, remote: Remote) -> Pen {
-    match remote {
-        Remote::Serializer { address } => page::hexed(pen, b", serializer ", address),
-        Remote::Target { number: _, address } => page::hexed(pen, b", camera ", address),
+// A device with its port.
+#[derive(Clone, Copy)]
+struct Named(PortDevice);
+
+impl fmt::Display for Named {
+    fn fmt<W: fmt::Write>(&self, f: &mut fmt::Formatter<W>) -> fmt::Result {
+        let port = self.0.port;
+        match self.0.remote {
+            Remote::Serializer { address } => write!(f, "port {port}, serializer {address:02X}"),
+            Remote::Target { address, .. } => write!(f, "port {port}, camera {address:02X}"),
+        }
     }
-}
-
-fn device_named(pen: Pen, device: PortDevice) -> Pen {
-    let remote = device.remote;
-    remote_named(page::numbered(pen, b"port ", device.port as u64), remote)
 }
 
 // The line that set the device's own address, 0 for none.
 fn own_line(state: RegistersWithOrigins, device: PortDevice) -> u64 {
-    let remote = device.remote;
-    match remote {
-        Remote::Serializer { address: _ } => {
-            origins::port_origin(state, device.port, map::SER_ID as u8)
-        }
-        Remote::Target { number, address: _ } => {
-            let offset = wrapping_add_u8(map::TARGET_ID_0 as u8, number);
-            origins::port_origin(state, device.port, offset)
-        }
-    }
+    let offset = match device.remote {
+        Remote::Serializer { .. } => map::SER_ID as u8,
+        Remote::Target { number, .. } => (map::TARGET_ID_0 as u8).wrapping_add(number),
+    };
+    origins::port_origin(state, device.port, offset)
 }
 
-// Whether the device's own address was set.
-fn own_address(pen: Pen, state: RegistersWithOrigins, device: PortDevice) -> Pen {
+// A device, with the lines that make it hear the address, and whether its own address was set.
+fn device_row(
+    pen: &mut Pen,
+    source: Source,
+    state: RegistersWithOrigins,
+    device: PortDevice,
+) -> io::Result<()> {
+    write!(pen, "{}", Named(device))?;
     if own_line(state, device) == 0 {
-        return page::text(pen, b" (not set)");
+        write!(pen, " (not set)")?;
     }
-    pen
-}
-
-// A device, with the lines that make it hear the address.
-fn device_row(pen: Pen, is_trace: bool, state: RegistersWithOrigins, device: PortDevice) -> Pen {
-    let named = own_address(device_named(pen, device), state, device);
+    pen.to_column(LINES_COLUMN)?;
     let lines = addresses::device_lines(state, device);
-    let placed = page::to_column(named, LINES_COLUMN);
-    page::line_end(words::three_lines(placed, is_trace, lines))
-}
-
-// A device of an address that has another one above it.
-fn next_row(pen: Pen, is_trace: bool, state: RegistersWithOrigins, device: PortDevice) -> Pen {
-    device_row(page::text(pen, b"      "), is_trace, state, device)
+    writeln!(pen, "{}", ThreeLines { source, lines })
 }
 
 // Who answers a read of an address whose writes reach several ports.
-fn read_row(pen: Pen, hub: Hub, address: u8) -> Pen {
-    match translation::who_answers_read(hub, address) {
-        ReadAnswer::AddressAbove7F => pen,
-        ReadAnswer::Unclear => page::line(pen, b"      a read has no clear answer (refusal 9)"),
-        ReadAnswer::Hub => pen,
-        ReadAnswer::NoDevice => pen,
-        ReadAnswer::Device(device) => {
-            let answered = page::text(pen, b"      a read is answered by ");
-            page::line_end(device_named(answered, device))
-        }
+fn read_row(pen: &mut Pen, end: &EndState, address: u8) -> io::Result<()> {
+    match translation::who_answers_read(end.hub, address) {
+        Err(ReadRefusal::Unclear) => writeln!(pen, "      a read has no clear answer (refusal 9)"),
+        Ok(Addressed::Found(device)) => writeln!(
+            pen,
+            "      a read is answered by {}",
+            Named(device)
+        ),
+        _ => Ok(()),
     }
 }
 
-fn two_rows(
-    pen: Pen,
-    is_trace: bool,
-    state: RegistersWithOrigins,
-    a: PortDevice,
-    b: PortDevice,
-) -> Pen {
-    let first = device_row(pen, is_trace, state, a);
-    next_row(first, is_trace, state, b)
-}
-
-fn device_rows(pen: Pen, is_trace: bool, state: RegistersWithOrigins, devices: Devices) -> Pen {
+// The devices of an address, the first in the address's own row.
+fn device_rows(
+    pen: &mut Pen,
+    source: Source,
+    end: &EndState,
+    address: u8,
+    devices: Devices,
+) -> io::Result<()> {
+    for k in 0..4 {
+        if let Some(device) = devices.get(k) {
+            if k != 0 {
+                write!(pen, "      ")?;
+            }
+            device_row(pen, source, end.state, device)?;
+        }
+    }
     match devices {
-        Devices::One(a) => device_row(pen, is_trace, state, a),
-        Devices::Two(a, b) => two_rows(pen, is_trace, state, a, b),
-        Devices::Three(a, b, c) => {
-            let second = two_rows(pen, is_trace, state, a, b);
-            next_row(second, is_trace, state, c)
-        }
-        Devices::Four(a, b, c, d) => {
-            let second = two_rows(pen, is_trace, state, a, b);
-            let third = next_row(second, is_trace, state, c);
-            next_row(third, is_trace, state, d)
-        }
-    }
-}
-
-fn is_one(devices: Devices) -> bool {
-    if let Devices::One(_) = devices {
-        true
-    } else {
-        false
+        Devices::One(_) => Ok(()),
+        _ => read_row(pen, end, address),
     }
 }
 
 // The address at the start of its row, marked where it reaches several ports and that looks wrong.
-fn address_named(pen: Pen, hub: Hub, state: RegistersWithOrigins, address: u8) -> Pen {
-    let clash = addresses::same_address(hub, state, address);
-    let marked = marks::mark(pen, wrong::is_wrong(clash));
-    page::text(page::hex(marked, address), b"  ")
+fn address_named(pen: &mut Pen, end: &EndState, address: u8) -> io::Result<()> {
+    let is_marked = wrong::is_wrong(addresses::same_address(end, address));
+    write!(pen, "{}{address:02X}  ", marks::mark(is_marked))
 }
 
-// An address that nobody hears: told only where a device heard it until its alias got another.
-fn lost_row(pen: Pen, is_trace: bool, lost: Lost, address: u8) -> Pen {
-    let at = (address % 128) as usize;
-    let changed = lost.changed[at];
-    if changed == 0 {
-        return pen;
-    }
-    let marked = marks::mark(pen, lost.wrong[at] == 1);
-    let named = page::text(page::hex(marked, address), b"  nobody any more");
-    let placed = page::to_column(named, LINES_COLUMN);
-    let set = words::place(placed, is_trace, lost.set[at]);
-    let by = page::text(set, b", replaced by ");
-    page::line_end(words::place(by, is_trace, changed))
+// An address that nobody hears, and that a device heard until its alias got another.
+fn lost_row(pen: &mut Pen, source: Source, address: u8, lost: LostAlias) -> io::Result<()> {
+    write!(
+        pen,
+        "{}{address:02X}  nobody any more",
+        marks::mark(lost.is_wrong)
+    )?;
+    pen.to_column(LINES_COLUMN)?;
+    writeln!(
+        pen,
+        "{source} {}, replaced by {source} {}",
+        lost.set, lost.changed
+    )
 }
 
 fn row(
-    pen: Pen,
-    is_trace: bool,
-    hub: Hub,
-    state: RegistersWithOrigins,
-    lost: Lost,
+    pen: &mut Pen,
+    source: Source,
+    end: &EndState,
     address: u8,
-) -> Pen {
-    match translation::who_hears_write(hub, address) {
-        WriteAnswer::AddressAbove7F => pen,
-        WriteAnswer::Hub => page::line(address_named(pen, hub, state, address), b"the hub itself"),
-        WriteAnswer::NoDevice => lost_row(pen, is_trace, lost, address),
-        WriteAnswer::Devices(devices) => {
-            let named = address_named(pen, hub, state, address);
-            let rows = device_rows(named, is_trace, state, devices);
-            if is_one(devices) {
-                return rows;
-            }
-            read_row(rows, hub, address)
+    lost: Option<LostAlias>,
+) -> io::Result<()> {
+    match translation::who_hears_write(end.hub, address) {
+        Ok(Addressed::Hub) => {
+            address_named(pen, end, address)?;
+            writeln!(pen, "the hub itself")
         }
+        Ok(Addressed::NoDevice) => match lost {
+            Some(alias) => lost_row(pen, source, address, alias),
+            None => Ok(()),
+        },
+        Ok(Addressed::Found(devices)) => {
+            address_named(pen, end, address)?;
+            device_rows(pen, source, end, address, devices)
+        }
+        Err(_) => Ok(()),
     }
 }
 
-fn rows(pen: Pen, is_trace: bool, hub: Hub, state: RegistersWithOrigins, lost: Lost) -> Pen {
-    let mut written = pen;
-    for address in 0..128 {
-        written = row(written, is_trace, hub, state, lost, address);
+pub fn table(
+    pen: &mut Pen,
+    source: Source,
+    end: &EndState,
+    lost: &[Option<LostAlias>; 128],
+) -> io::Result<()> {
+    writeln!(pen, "\nAddresses on the bus")?;
+    for address in 0..128u8 {
+        row(pen, source, end, address, lost[address as usize])?;
     }
-    written
-}
-
-// The forwarded ports that no address reaches.
-fn unreached(pen: Pen, hub: Hub) -> Pen {
-    let ports = reached::ports_without_address(hub);
-    if ports == 0 {
-        return pen;
+    writeln!(pen, "  All other addresses reach nobody.")?;
+    let ports = reached::ports_without_address(end.hub);
+    if ports != 0 {
+        writeln!(
+            pen,
+            "  No address reaches {}, whose pictures are forwarded.",
+            NamedPorts(ports)
+        )?;
     }
-    let named = words::ports_named(page::text(pen, b"  No address reaches "), ports);
-    page::line(named, b", whose pictures are forwarded.")
-}
-
-pub fn table(pen: Pen, is_trace: bool, hub: Hub, state: RegistersWithOrigins, lost: Lost) -> Pen {
-    let begun = page::line(page::line_end(pen), b"Addresses on the bus");
-    let written = rows(begun, is_trace, hub, state, lost);
-    let others = page::line(written, b"  All other addresses reach nobody.");
-    unreached(others, hub)
+    Ok(())
 }

@@ -1,106 +1,82 @@
 // Outputs and channels, and addresses, that several ports share.
 use crate::marks;
 use endstate::findings::{Clash, Grade};
-use endstate::{addresses, channels, wrong};
+use endstate::{EndState, addresses, channels};
 use formats::Format;
-use hub::Hub;
-use origins::RegistersWithOrigins;
-use page::{Listed, Pen};
+use page::Pen;
+use std::io;
+use std::io::Write;
+use words::{NamedPorts, OutputChannel, Ports};
 
-// Whether there is a clash.
-fn is_clash(clash: Clash) -> bool {
-    let grade = clash.grade;
-    match grade {
-        Grade::NoFinding => false,
-        Grade::Meant => true,
-        Grade::Wrong => true,
+// The start of a clash; the first one has the heading above it.
+fn begin(pen: &mut Pen, count: &mut u64, clash: Clash) -> io::Result<()> {
+    if *count == 0 {
+        writeln!(pen, "\nClashes")?;
     }
+    *count = count.wrapping_add(1);
+    write!(pen, "{}", marks::mark(clash.grade == Grade::Wrong))
 }
 
-// The heading, before the first clash.
-fn heading(list: Listed) -> Pen {
-    if list.count != 0 {
-        return list.pen;
+// The end of a line: whether the clash is graded as meant.
+fn line_end(pen: &mut Pen, clash: Clash) -> io::Result<()> {
+    match clash.grade {
+        Grade::Meant => writeln!(pen, ", perhaps meant"),
+        Grade::Wrong => writeln!(pen),
     }
-    page::line(page::line_end(list.pen), b"Clashes")
-}
-
-// Whether it is graded as meant.
-fn line_end(pen: Pen, clash: Clash) -> Pen {
-    if marks::is_meant(clash) {
-        return page::line(pen, b", perhaps meant");
-    }
-    page::line_end(pen)
 }
 
 fn channel(
-    list: Listed,
-    hub: Hub,
-    state: RegistersWithOrigins,
-    format: Format,
-    output: u8,
-    channel: u8,
-) -> Listed {
-    let clash = channels::same_channel(hub, state, format, output, channel);
-    if !is_clash(clash) {
-        return list;
+    pen: &mut Pen,
+    count: &mut u64,
+    end: &EndState,
+    shared: OutputChannel,
+) -> io::Result<()> {
+    if let Some(clash) = channels::same_channel(end, shared.format, shared.output, shared.channel) {
+        begin(pen, count, clash)?;
+        write!(pen, "ports {} share {shared}", Ports(clash.ports))?;
+        line_end(pen, clash)?;
     }
-    let marked = marks::mark(heading(list), wrong::is_wrong(clash));
-    let named = words::sharing(
-        page::text(marked, b"ports "),
-        clash.ports,
-        format,
-        output,
-        channel,
-    );
-    page::one_more(list, line_end(named, clash))
+    Ok(())
 }
 
-fn output(
-    list: Listed,
-    hub: Hub,
-    state: RegistersWithOrigins,
-    format: Format,
-    output: u8,
-) -> Listed {
-    let channel_0 = channel(list, hub, state, format, output, 0);
-    let channel_1 = channel(channel_0, hub, state, format, output, 1);
-    let channel_2 = channel(channel_1, hub, state, format, output, 2);
-    channel(channel_2, hub, state, format, output, 3)
-}
-
-fn all_channels(list: Listed, hub: Hub, state: RegistersWithOrigins) -> Listed {
-    let raw10_0 = output(list, hub, state, Format::Raw10, 0);
-    let raw10_1 = output(raw10_0, hub, state, Format::Raw10, 1);
-    let raw12_0 = output(raw10_1, hub, state, Format::Raw12, 0);
-    output(raw12_0, hub, state, Format::Raw12, 1)
-}
-
-fn address(list: Listed, hub: Hub, state: RegistersWithOrigins, address: u8) -> Listed {
-    let clash = addresses::same_address(hub, state, address);
-    if !is_clash(clash) {
-        return list;
+fn all_channels(pen: &mut Pen, count: &mut u64, end: &EndState) -> io::Result<()> {
+    for format in [Format::Raw10, Format::Raw12] {
+        for output in 0..2u8 {
+            for number in 0..4u8 {
+                let shared = OutputChannel {
+                    format,
+                    output,
+                    channel: number,
+                };
+                channel(pen, count, end, shared)?;
+            }
+        }
     }
-    let marked = marks::mark(heading(list), wrong::is_wrong(clash));
-    let named = words::reaching(page::text(marked, b"address "), clash.ports, address);
-    page::one_more(list, line_end(named, clash))
+    Ok(())
 }
 
-fn all_addresses(list: Listed, hub: Hub, state: RegistersWithOrigins) -> Listed {
-    let mut next = list;
-    for number in 0..128 {
-        next = address(next, hub, state, number);
+fn all_addresses(pen: &mut Pen, count: &mut u64, end: &EndState) -> io::Result<()> {
+    for address in 0..128u8 {
+        if let Some(clash) = addresses::same_address(end, address) {
+            begin(pen, count, clash)?;
+            write!(
+                pen,
+                "address {address:02X} reaches {}",
+                NamedPorts(clash.ports)
+            )?;
+            line_end(pen, clash)?;
+        }
     }
-    next
+    Ok(())
 }
 
 // The list, or that there is no clash.
-pub fn clash_list(pen: Pen, hub: Hub, state: RegistersWithOrigins) -> Pen {
-    let begun = page::new_list(pen);
-    let outputs = all_channels(begun, hub, state);
-    let list = all_addresses(outputs, hub, state);
-    if list.count != 0 {
-        return list.pen;
+pub fn clash_list(pen: &mut Pen, end: &EndState) -> io::Result<()> {
+    let mut count = 0;
+    all_channels(pen, &mut count, end)?;
+    all_addresses(pen, &mut count, end)?;
+    if count == 0 {
+        writeln!(pen, "\nClashes: none")?;
     }
-    page::line(page::line_end(list.pen), b"Clashes: none")
+    Ok(())
 }

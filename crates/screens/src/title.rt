@@ -1,7 +1,8 @@
 // What was run: the file and the hub, and how many writes there were.
 use page::{Pen, shown};
 use registers::power_up::PowerUp;
-use std::num::wrapping_add_u64;
+use std::io;
+use std::io::Write;
 
 // How many register writes there were; of how many the register is not followed; how many went to a per-port register
 // while no port was selected; and how many selected ports.
@@ -13,61 +14,45 @@ pub struct WriteCounts {
     pub selections: u64,
 }
 
-// Whether no write reached a register but that of the selection.
-pub(crate) fn sets_nothing(counts: WriteCounts) -> bool {
-    let idle = wrapping_add_u64(counts.not_followed, counts.no_port);
-    counts.writes == wrapping_add_u64(idle, counts.selections)
-}
-
-// The file's name; standard input for -.
-fn name(pen: Pen, path: &[u8]) -> Pen {
-    if check::same(path, b"-") {
-        return page::text(pen, b"standard input");
-    }
-    shown::bytes(pen, path)
-}
-
-// The file, the hub's own address, and how it starts.
-pub fn file_on_hub(pen: Pen, path: &[u8], address: u8, start: PowerUp) -> Pen {
-    let named = page::hexed(name(pen, path), b" on hub ", address);
-    match start {
-        PowerUp::Boot => page::line(named, b", as the board starts"),
-        PowerUp::Reset => page::line(named, b", as the data sheet starts"),
+impl WriteCounts {
+    // Whether no write reached a register but that of the selection.
+    pub(crate) fn sets_nothing(self) -> bool {
+        let idle = self.not_followed.wrapping_add(self.no_port);
+        self.writes == idle.wrapping_add(self.selections)
     }
 }
 
-fn not_followed(pen: Pen, count: u64) -> Pen {
-    if count == 0 {
-        return pen;
+// The file, the hub's own address, and how it starts; standard input for -.
+pub fn file_on_hub(pen: &mut Pen, path: &[u8], address: u8, start: PowerUp) -> io::Result<()> {
+    if path == b"-".as_slice() {
+        write!(pen, "standard input")?;
+    } else {
+        shown::bytes(pen, path)?;
     }
-    page::text(
-        page::numbered(pen, b", ", count),
-        b" not followed by this model",
-    )
-}
-
-fn no_port(pen: Pen, count: u64) -> Pen {
-    if count == 0 {
-        return pen;
-    }
-    page::text(page::numbered(pen, b", ", count), b" with no port selected")
+    let started = match start {
+        PowerUp::Boot => "board",
+        PowerUp::Reset => "data sheet",
+    };
+    writeln!(pen, " on hub {address:02X}, as the {started} starts")
 }
 
 // How many writes there were, and how many of them did nothing.
-pub fn writes(pen: Pen, counts: WriteCounts) -> Pen {
+pub fn writes(pen: &mut Pen, counts: WriteCounts) -> io::Result<()> {
     if counts.writes == 0 {
-        return page::line(pen, b"no register write: the hub is as it starts");
+        return writeln!(pen, "no register write: the hub is as it starts");
     }
-    let counted = words::counted(pen, counts.writes, b" register write", b" register writes");
-    if sets_nothing(counts) {
-        return page::line(
-            counted,
-            b", and none sets up anything that this model follows",
-        );
+    words::counted(pen, counts.writes, " register write", " register writes")?;
+    if counts.sets_nothing() {
+        return writeln!(pen, ", and none sets up anything that this model follows");
     }
     if counts.not_followed == 0 && counts.no_port == 0 {
-        return page::line(counted, b", all followed");
+        return writeln!(pen, ", all followed");
     }
-    let followed = not_followed(counted, counts.not_followed);
-    page::line_end(no_port(followed, counts.no_port))
+    if counts.not_followed != 0 {
+        write!(pen, ", {} not followed by this model", counts.not_followed)?;
+    }
+    if counts.no_port != 0 {
+        write!(pen, ", {} with no port selected", counts.no_port)?;
+    }
+    writeln!(pen)
 }
