@@ -1,6 +1,7 @@
 -- I2C address translation: document 01, "Who hears an address".
 -- Assumes nothing.
-use Rattle.std.specs.Prelude.{Bool, cond, not, ◌&&◌, List, [], ◌∷◌, ℕ, zero, suc, ◌+◌, ◌/◌, eqb, ltb, Option, Some, None, Result}
+use Rattle.std.specs.Prelude.{Bool, cond, not, ◌&&◌, List, [], ◌∷◌, ℕ, zero, suc, ◌+◌, ◌/◌, eqb, ltb}
+use Rattle.std.specs.Prelude.{Option, Some, None, Result}
 use Rattle.laws.specs.Bits.{bit}
 use Rattle.laws.specs.Reply.{Reply, refused, given, on_reply, reply_by}
 use Rattle.registers.specs.RegisterMap.{BCC_CONFIG, SER_ID, SER_ALIAS_ID, TARGET_ID_0, TARGET_ALIAS_0}
