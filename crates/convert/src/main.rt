@@ -7,9 +7,9 @@ mod to_start;
 mod to_text;
 mod to_trace;
 
-use console::arguments;
-use console::say::{Command, STDERR_FILENO};
-use console::status::Status;
+use console::say::Command;
+use console::status::NotDone;
+use console::{arguments, say, status};
 use registers::power_up::PowerUp;
 use std::fs::File;
 use std::io::Stdin;
@@ -17,39 +17,32 @@ use std::process::ExitCode;
 use std::random::RandomSource;
 use std::rt::{Env, Files};
 
-// How the hub starts, by a word for it: one of two, or another word.
-#[derive(Clone, Copy)]
-enum Start {
-    OtherWord,
-    Named(PowerUp),
-}
-
-fn start_of(word: &[u8]) -> Start {
-    if check::same(word, b"board") {
-        return Start::Named(PowerUp::Boot);
+// How the hub starts, by a word for it.
+fn start_of(word: &[u8]) -> Option<PowerUp> {
+    match word {
+        b"board" => Some(PowerUp::Boot),
+        b"sheet" => Some(PowerUp::Reset),
+        _ => None,
     }
-    if check::same(word, b"sheet") {
-        return Start::Named(PowerUp::Reset);
-    }
-    Start::OtherWord
 }
 
 // Says how the program is run.
-fn say_use() -> Status {
-    io::write_all(
-        STDERR_FILENO,
-        b"convert: ./loopcinder runs this program, as: convert trace board|sheet ADDRESS SCRIPT OUT PART, or: convert text TRACE, or: convert start TRACE\n",
-    );
-    Status::Failed
+fn say_use() -> NotDone {
+    say::usage(
+        "convert: ./loopcinder runs this program, as: convert trace board|sheet ADDRESS SCRIPT OUT PART, or: convert text TRACE, or: convert start TRACE",
+    )
 }
 
 // A script to a trace, with the start that is named after the command.
-fn trace(rt: &(impl Files<File = File> + Env + Print), stdin: Stdin, command: Command) -> Status {
-    let mut word = io::buffer();
-    let length = arguments::word_or_none(rt, 2, &mut word);
-    match start_of(&word[..length]) {
-        Start::OtherWord => say_use(),
-        Start::Named(start) => to_trace::run(rt, stdin, command, start),
+fn trace(
+    rt: &(impl Files<File = File> + Env + Print),
+    stdin: Stdin,
+    command: Command,
+) -> Result<(), NotDone> {
+    let mut buffer = io::buffer();
+    match start_of(arguments::word_or_empty(rt, 2, &mut buffer)) {
+        Some(start) => to_trace::run(rt, stdin, command, start),
+        None => Err(say_use()),
     }
 }
 
@@ -58,31 +51,18 @@ fn convert(
     rt: &(impl Files<File = File> + Env + Print + RandomSource),
     stdin: Stdin,
     word: &[u8],
-    words: usize,
-) -> Status {
-    if words == 7 {
-        if check::same(word, b"trace") {
-            return trace(rt, stdin, Command::Trace);
-        }
-        if check::same(word, b"run") {
-            return trace(rt, stdin, Command::Run);
-        }
+) -> Result<(), NotDone> {
+    match (arguments::count(rt), word) {
+        (7, b"trace") => trace(rt, stdin, Command::Trace),
+        (7, b"run") => trace(rt, stdin, Command::Run),
+        (3, b"text") => to_text::run(rt, stdin, Command::Text),
+        (3, b"start") => to_start::run(rt, stdin, Command::Start),
+        _ => Err(say_use()),
     }
-    if words == 3 {
-        if check::same(word, b"text") {
-            return to_text::run(rt, stdin, Command::Text);
-        }
-        if check::same(word, b"start") {
-            return to_start::run(rt, stdin, Command::Start);
-        }
-    }
-    say_use()
 }
 
 fn main(rt: HostRuntime) -> ExitCode {
-    let mut word = io::buffer();
-    let length = arguments::word_or_none(&rt, 1, &mut word);
-    let words = arguments::count(&rt);
-    let status = convert(&rt, rt.stdin(), &word[..length], words);
-    console::status::tell(status)
+    let mut buffer = io::buffer();
+    let word = arguments::word_or_empty(&rt, 1, &mut buffer);
+    status::tell(convert(&rt, rt.stdin(), word))
 }

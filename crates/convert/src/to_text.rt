@@ -3,219 +3,108 @@ ghost use Rattle.std.specs.Prelude.{◌≤◌, length};
 ghost use Rattle.trace.specs.Framing.{longest_record};
 ghost use Rattle.listing.specs.Listing.{longest_text};
 
-use console::again::Again;
-use console::input::Read;
-use console::opened::Opened;
+use console::input::Input;
 use console::say::Command;
-use console::status::Status;
-use console::{again, arguments, input, say, status};
+use console::status::NotDone;
+use console::{again, arguments, input, say};
+use listing::TextRefusal;
 use std::fs::File;
 use std::io::Stdin;
 use std::random::RandomSource;
 use std::rt::{Env, Files};
-use tracetext::{TextFile, TextRefusal, TextRun};
+use tracetext::TextRun;
 
-// How far the trace is read: the trace, whether nothing is left to do, and the status, done unless a file failed.
-#[derive(Clone, Copy)]
-struct Progress {
-    file: TextFile,
-    over: bool,
-    status: Status,
-}
-
-// Writes the first bytes of the text, or says that they cannot be written; done where they were.
-fn write_text(rt: &impl Print, command: Command, text: &[u8], end: usize) -> Status
-    requires { end ≤ length text.now }
-{
-    match rt.write_all(&text[0..end]) {
-        Ok(()) => Status::Done,
-        Err(error) => say::unwritten(command, b"cannot write the text", error),
-    }
-}
-
-// Reads, and makes the text of the records that were read; writes it where it is to be printed.
-fn take_turn(
-    rt: &impl Print,
-    command: Command,
-    from: &Opened,
-    path: &[u8],
-    file: TextFile,
-    print: bool,
+// Goes through the trace; what is to be done with its text is done turn by turn. No file has as many turns as the loop
+// (`TextHoweverCut` in `tracetext` says how many a trace takes; the rest of what it asks is required here).
+fn take_all<F: FnMut(&[u8]) -> Result<(), NotDone>>(
+    from: Input<'_>,
     buffer: &mut [u8],
     text: &mut [u8],
-) -> Progress {
-    match input::read_on(command, from, path, file.window, buffer) {
-        Read::Failed => Progress {
-            file,
-            over: true,
-            status: Status::Failed,
-        },
-        Read::Got(got) => {
-            let turn = tracetext::turn(file, got, buffer, text);
-            let after = turn.file;
-            let mut status = Status::Done;
-            if print {
-                status = write_text(rt, command, text, turn.end);
-            }
-            Progress {
-                file: after,
-                over: turn.done || !status::is_done(status),
-                status,
-            }
-        }
-    }
-}
-
-// Goes through the trace. The turns are counted down, from a number that no file uses up (`TextHoweverCut` in
-// `tracetext` says how many a trace takes; the rest of what it asks is required here).
-fn take_all(
-    rt: &impl Print,
-    command: Command,
-    from: &Opened,
-    path: &[u8],
-    print: bool,
-    buffer: &mut [u8],
-    text: &mut [u8],
-) -> Progress
+    mut take: F,
+) -> Result<TextRun, NotDone>
     requires longest_record_in_bounds { longest_record ≤ length buffer.old }
     requires longest_text_in_bounds { longest_text ≤ length text.old }
+    requires take_callable { F.IsAlwaysCallable take }
 {
-    let file = tracetext::new_file();
-    let mut progress = Progress {
-        file,
-        over: false,
-        status: Status::Done,
-    };
-    let mut turns = u64::MAX;
-    while turns > 0 && !progress.over {
-        let file = progress.file;
-        progress = take_turn(rt, command, from, path, file, print, buffer, text);
-        turns -= 1;
+    let mut file = tracetext::new_file();
+    for _ in 0..u64::MAX {
+        let got = input::read_on(from, file.window, buffer)?;
+        let turn = tracetext::turn(file, got, buffer, text);
+        take(&text[..turn.end])?;
+        file = turn.file;
+        if turn.done {
+            return Ok(file.run);
+        }
     }
-    progress
+    Err(NotDone::Failed)
 }
 
 // Says in words why the trace has no text.
-fn say_why(command: Command, run: TextRun, refusal: TextRefusal) {
-    let record = tracetext::refused_record(run);
+fn say_why(command: Command, refusal: TextRefusal, record: u64) {
     match refusal {
-        TextRefusal::NoRefusal => {}
-        TextRefusal::NoRecord => say::numbered(
+        TextRefusal::NoRecord => say::words(
             command,
-            b"record ",
-            record,
-            b" is missing, cut short, or not one that a trace has there; is this file a trace?\n",
+            format_args!(
+                "record {record} is missing, cut short, or not one that a trace has there; is this file a trace?"
+            ),
         ),
-        TextRefusal::AddressOutOfRange => {
-            say::words(
-                command,
-                b"the hub's address in record 1 has to lie in 08 to 77\n",
-            );
-        }
-        TextRefusal::NoTextForm => say::numbered(
+        TextRefusal::AddressOutOfRange => say::words(
             command,
-            b"record ",
-            record,
-            b" is no register write: only the hub's address and register writes have a text\n",
+            "the hub's address in record 1 has to lie in 08 to 77",
+        ),
+        TextRefusal::NoTextForm => say::words(
+            command,
+            format_args!(
+                "record {record} is no register write: only the hub's address and register writes have a text"
+            ),
         ),
     }
 }
 
-fn refuse(rt: &impl Print, command: Command, run: TextRun, refusal: TextRefusal) -> Status {
-    if let Err(error) = say::refusal(rt, tracetext::refusal_number(refusal) as u64) {
-        return say::unwritten(command, b"cannot write the output", error);
-    }
-    say_why(command, run, refusal);
-    Status::Refused
-}
-
-// Done where the whole trace was read and has a text; says why it has none.
-fn ending(rt: &impl Print, command: Command, progress: Progress) -> Status {
-    if !status::is_done(progress.status) {
-        return progress.status;
-    }
-    if !progress.over {
-        return Status::Failed;
-    }
-    let file = progress.file;
-    let run = file.run;
-    let refusal = tracetext::end_refusal(run);
-    if tracetext::refusal_number(refusal) == 0 {
-        return Status::Done;
-    }
-    refuse(rt, command, run, refusal)
-}
-
-// Reads the trace again from a place in the open file on, and prints its text.
-fn print(
-    rt: &impl Print,
-    command: Command,
-    from: &Again,
-    path: &[u8],
-    buffer: &mut [u8],
-    text: &mut [u8],
-) -> Status
-    requires longest_record_in_bounds { longest_record ≤ length buffer.old }
-    requires longest_text_in_bounds { longest_text ≤ length text.old }
-{
-    if let Err(error) = from.file.go_to(from.start) {
-        input::say_unread(command, path, error);
-        return Status::Failed;
-    }
-    let printed = take_all(rt, command, &from.file, path, true, buffer, text);
-    ending(rt, command, printed)
+// Whether the trace, read to its end, has a text; says why it has none.
+fn check(rt: &impl Print, command: Command, run: TextRun) -> Result<(), NotDone> {
+    let Some(refusal) = tracetext::end_refusal(run) else {
+        return Ok(());
+    };
+    say::refusal(rt, command, refusal)?;
+    say_why(command, refusal, tracetext::refused_record(run));
+    Err(NotDone::Refused)
 }
 
 // Prints the text of the trace, from a place in the open file on, or says why there is none.
-fn convert(rt: &impl Print, command: Command, from: &Again, path: &[u8]) -> Status {
+fn convert(rt: &impl Print, from: Input<'_>, start: u64) -> Result<(), NotDone> {
+    let command = from.command;
     let mut buffer = io::large_buffer();
     let mut text = io::large_buffer();
-    let seen = take_all(rt, command, &from.file, path, false, &mut buffer, &mut text);
-    match ending(rt, command, seen) {
-        Status::Done => print(rt, command, from, path, &mut buffer, &mut text),
-        Status::Refused => Status::Refused,
-        Status::Failed => Status::Failed,
-        Status::Unread => Status::Unread,
-    }
+    let seen = take_all(from, &mut buffer, &mut text, |_| Ok(()))?;
+    check(rt, command, seen)?;
+    from.opened
+        .go_to(start)
+        .map_err(|error| input::say_unread(command, from.path, error))?;
+    let printed = take_all(from, &mut buffer, &mut text, |piece| {
+        rt.write_all(piece).map_err(|error| say::unwritten(command, "cannot write the text", error))
+    })?;
+    check(rt, command, printed)
 }
 
 // A file that cannot be read twice is copied first.
-fn convert_file(
-    rt: &(impl Files<File = File> + Print + RandomSource),
-    command: Command,
-    file: Opened,
-    path: &[u8],
-) -> Status {
-    match again::make(rt, command, file, path) {
-        Some(from) => convert(rt, command, &from, path),
-        None => Status::Failed,
-    }
-}
-
-// Converts the file with that name.
-fn convert_named(
-    rt: &(impl Files<File = File> + Print + RandomSource),
-    stdin: Stdin,
-    command: Command,
-    path: &[u8],
-) -> Status {
-    match input::open(rt, stdin, command, path) {
-        Some(file) => convert_file(rt, command, file, path),
-        None => Status::Failed,
-    }
-}
-
 pub(crate) fn run(
     rt: &(impl Files<File = File> + Env + Print + RandomSource),
     stdin: Stdin,
     command: Command,
-) -> Status {
-    let mut path = io::buffer();
-    match arguments::word(rt, 2, &mut path) {
-        Ok(length) => convert_named(rt, stdin, command, &path[..length]),
-        Err(error) => {
-            say::failed(command, b"cannot open the trace", error);
-            Status::Failed
-        }
-    }
+) -> Result<(), NotDone> {
+    let mut buffer = io::buffer();
+    let path = arguments::word(rt, 2, &mut buffer).map_err(|error| say::failed(
+        command,
+        "cannot open the trace",
+        error,
+    ))?;
+    let file = input::open(rt, stdin, command, path)?;
+    let again = again::make(rt, command, file, path)?;
+    let from = Input {
+        command,
+        opened: &again.file,
+        path,
+    };
+    convert(rt, from, again.start)
 }

@@ -1,5 +1,0 @@
--- `convert::to_text::take_all` ends: the turns are counted down.
-use Rattle.convert.proofs.to_text.take_all.Given as goal
-
-abbrev pub decreases-loop-turns : goal.decreases-loop-turns
-decreases-loop-turns g l = l.turns
