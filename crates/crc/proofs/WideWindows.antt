@@ -142,15 +142,6 @@ module _ (l : List ℕ) (i x : ℕ) (h : i + 32 < length l) where
       (ap (λ (t : ℕ). a ∷ drop t extended) (add-one i) ∙ sym (drop-cons extended i 0 within) ∙ drop-set-add i l 32 x)
       ∙ word_put 32 (drop i l) 0 x room
 
--- a word of the upper half, m, comes down
-pub moved : (l m : List ℕ) (i : ℕ) → i < length l → i < length m → drop 32 l ≡ m → take i l ≡ take i m
-    → take (i + 1) (set l i (get_or l (i + 32) 0)) ≡ take (i + 1) m
-moved l m i h k e f =
-    ap (λ (t : ℕ). take t (set l i (get_or l (i + 32) 0))) (add-one i) ∙ take-suc-set l i _ h
-    ∙ ap₂ (λ (s : List ℕ) (x : ℕ). s ++ (x ∷ [])) f
-    (ap (λ (t : ℕ). get_or l t 0) (add_comm i 32) ∙ sym (get_or-drop 32 l i 0) ∙ ap (λ (s : List ℕ). get_or s i 0) e)
-    ∙ sym (ap (λ (t : ℕ). take t m) (add-one i) ∙ take-suc m i 0 k)
-
 -- four words as a window
 pub first_four_lem : (l : List ℕ) → 4 ≤ length l
     → after_word (after_word (after_word (shifts 64 (get_or l 0 0)) (get_or l 1 0)) (get_or l 2 0)) (get_or l 3 0) ≡ after_words 0 (take 4 l)

@@ -56,9 +56,7 @@ fn word(bytes: &[u8], at: usize, n: usize) -> u64
     ensures { Holds bytes.now at n result }
 {
     let mut x: u64 = 0;
-    let mut i = n;
-    while 0 < i {
-        i -= 1;
+    for i in (0..n).rev() {
         x = (x << 8) ^ (bytes[at + i] as u64);
     }
     x
@@ -134,9 +132,7 @@ fn move_down(window: &mut [u64])
     requires { length window.old ≡ 64 }
     ensures { take 32 window.new ≡ take 32 (drop 32 window.old) }
 {
-    for i in 0..32 {
-        window[i] = window[i + 32];
-    }
+    window.copy_within(32..64, 0);
 }
 
 // Four words that stand for what a wide window does.
@@ -162,6 +158,7 @@ fn open_wide(crc: u16, bytes: &[u8]) -> Opened
     ensures { SumOfFirst crc bytes.now result.at (after_window result.window) }
 {
     let mut window = wide_window(crc, bytes);
+    // A `while`, since the place where it ends is answered; a `for` would work it out once more.
     let mut i = 256;
     while 256 <= bytes.len() - i {
         slide_wide(&mut window, bytes, i);
@@ -201,6 +198,7 @@ fn feed_blocks(crc: u16, bytes: &[u8]) -> Progress
     }
     let opened = open(crc, bytes);
     let mut window = opened.window;
+    // A `while`, since the place where it ends is answered; a `for` would work it out once more.
     let mut i = opened.at;
     while 16 <= bytes.len() - i {
         let low = word(bytes, i, 8);
@@ -232,6 +230,7 @@ fn feed_words(crc: u16, bytes: &[u8]) -> u16
     ensures { result ≡ crc_from crc bytes.now }
 {
     let mut sum = crc;
+    // A `while`, since the rest begins where it ends; a `for` would work that place out once more.
     let mut i = 0;
     while 8 <= bytes.len() - i {
         sum = after_word(sum, word(bytes, i, 8));

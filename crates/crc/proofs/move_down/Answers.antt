@@ -1,19 +1,11 @@
--- `crc::move_down` meets its contract. The loop's invariant: the first i words are those of the upper half.
-use mathlib.Core.Path.{◌∙◌}
-use Prim.Native.Nat.{◌<◌}
+-- `crc::move_down` meets its contract: the copied words stand at the start.
+use mathlib.Core.Path.{◌∙◌, ap}
 use native.Mathlib.Omega.{arith}
-use lib.ListN.{length, drop, length-drop, length-set}
-use lib.Seq.{drop-set-lt}
-use Rattle.crc.proofs.WideWindows.{moved}
+use lib.ListN.{take, drop, length-drop}
+use Rattle.std.proofs.lemmas.List.Edits.{take-paste}
 use Rattle.crc.proofs.move_down.Goals as goal
 
-pub loop-i-preserved : goal.loop-i-preserved
-loop-i-preserved c =
-    let m = drop 32 c.args.window.now in
-    let above : c.loop-i.i < length m = rw length-drop (omega arith) in (
-      (omega arith, simp length-set c.loop-i.invariant.0.1),
-      (
-        drop-set-lt 32 c.loop-i.window c.loop-i.i _ (omega arith) ∙ c.loop-i.invariant.1.0,
-        moved c.loop-i.window m c.loop-i.i (omega arith) above c.loop-i.invariant.1.0 c.loop-i.invariant.1.1,
-      ),
-    )
+pub returns : goal.returns
+returns c =
+    let d = c.args.window.now in
+    ap (take 32) c.copy_within.ensures.after ∙ take-paste d 0 (drop 32 d) 32 (omega arith) (let l = length-drop 32 d in omega arith)
