@@ -4,37 +4,34 @@
 
 mod run;
 
-use console::say::{Command, STDERR_FILENO};
-use console::status::Status;
-use console::{arguments, input, say};
+use console::input::Input;
+use console::say::Command;
+use console::status::NotDone;
+use console::{arguments, input, say, status};
 use std::fs::File;
 use std::io::Stdin;
 use std::process::ExitCode;
 use std::rt::{Env, Files};
 
-// Plays the file with that name.
-fn play_named(
-    rt: &(impl Files<File = File> + Print),
+// Plays the file that the second argument names.
+fn play(
+    rt: &(impl Files<File = File> + Env + Print),
     stdin: Stdin,
     command: Command,
-    path: &[u8],
-) -> Status {
-    match input::open(rt, stdin, command, path) {
-        Some(from) => run::play_file(rt, command, &from, path),
-        None => Status::Failed,
-    }
-}
-
-// Plays the file that the second argument names.
-fn play(rt: &(impl Files<File = File> + Env + Print), stdin: Stdin, command: Command) -> Status {
-    let mut path = io::buffer();
-    match arguments::word(rt, 2, &mut path) {
-        Ok(length) => play_named(rt, stdin, command, &path[..length]),
-        Err(error) => {
-            say::failed(command, b"cannot open the trace", error);
-            Status::Failed
-        }
-    }
+) -> Result<(), NotDone> {
+    let mut buffer = io::buffer();
+    let path = arguments::word(rt, 2, &mut buffer).map_err(|error| say::failed(
+        command,
+        "cannot open the trace",
+        error,
+    ))?;
+    let opened = input::open(rt, stdin, command, path)?;
+    let from = Input {
+        command,
+        opened: &opened,
+        path,
+    };
+    run::play_file(rt, from)
 }
 
 // The program's work, by the command that was typed.
@@ -42,27 +39,16 @@ fn play_as(
     rt: &(impl Files<File = File> + Env + Print),
     stdin: Stdin,
     word: &[u8],
-    words: usize,
-) -> Status {
-    if words == 3 {
-        if check::same(word, b"play") {
-            return play(rt, stdin, Command::Play);
-        }
-        if check::same(word, b"run") {
-            return play(rt, stdin, Command::Run);
-        }
+) -> Result<(), NotDone> {
+    match (arguments::count(rt), word) {
+        (3, b"play") => play(rt, stdin, Command::Play),
+        (3, b"run") => play(rt, stdin, Command::Run),
+        _ => Err(say::usage("player: ./loopcinder runs this program, as: player play FILE")),
     }
-    io::write_all(
-        STDERR_FILENO,
-        b"player: ./loopcinder runs this program, as: player play FILE\n",
-    );
-    Status::Failed
 }
 
 fn main(rt: HostRuntime) -> ExitCode {
-    let mut word = io::buffer();
-    let length = arguments::word_or_none(&rt, 1, &mut word);
-    let words = arguments::count(&rt);
-    let status = play_as(&rt, rt.stdin(), &word[..length], words);
-    console::status::tell(status)
+    let mut buffer = io::buffer();
+    let word = arguments::word_or_empty(&rt, 1, &mut buffer);
+    status::tell(play_as(&rt, rt.stdin(), word))
 }
