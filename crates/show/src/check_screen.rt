@@ -1,169 +1,168 @@
 // The screen of check: what looks wrong, each thing with the script's lines as they are typed; what is shared as meant;
 // then the notes, counted.
 use crate::facts::Facts;
+use crate::found::Found;
+use crate::numbers;
 use crate::reading::Reading;
-use crate::told::{Counts, Task};
-use crate::{facts, reading};
-use checklist::clash_list::Wanted;
+use crate::selected_again::SelectedAgain;
+use crate::stop::Stop;
+use crate::walk::Task;
 use checklist::typed::File;
 use checklist::{clash_list, notes, things};
-use clashes::addresses as reached;
-use hub::Hub;
-use ordering::ticks;
-use ordering::ticks::Ticks;
-use origins::RegistersWithOrigins;
-use page::{Listed, Pen};
+use clashes::addresses;
+use endstate::findings::Grade;
+use page::Pen;
 use screens::{closing, title};
+use words::Source;
 use words::kinds::Kind;
-use words::numbers;
 
-// A list that is told by a way through the writes, where there is something to tell.
-fn tell_if(reading: Reading<'_>, path: &[u8], task: Task, count: u64, list: Listed) -> Listed {
-    if count == 0 {
-        return list;
-    }
-    reading::tell(reading, path, task, list)
+// The writes while no port is selected are told; so many things stand before the first of them.
+#[derive(Drop)]
+struct NoPort<'a> {
+    pen: &'a mut Pen,
+    count: &'a mut u64,
+    before: u64,
+    file: File<'a>,
 }
 
-// The ports that are forwarded and were not set up.
-fn not_set_up(
-    list: Listed,
-    file: File<'_>,
-    hub: Hub,
-    state: RegistersWithOrigins,
-    ticks: Ticks,
-) -> Listed {
-    let port_0 = things::not_set_up(list, file, hub, state, 0, ticks::last_tick(ticks, 0));
-    let port_1 = things::not_set_up(port_0, file, hub, state, 1, ticks::last_tick(ticks, 1));
-    let port_2 = things::not_set_up(port_1, file, hub, state, 2, ticks::last_tick(ticks, 2));
-    things::not_set_up(port_2, file, hub, state, 3, ticks::last_tick(ticks, 3))
+impl Task for NoPort<'_> {
+    fn at_write(&mut self, found: &Found) -> Result<(), Stop> {
+        if found.no_port {
+            things::no_port(self.pen, self.count, self.before, self.file, found.write)?;
+        }
+        Ok(())
+    }
+}
+
+// The odd values of aliases are told, each explained.
+#[derive(Drop)]
+struct OddAliases<'a> {
+    pen: &'a mut Pen,
+    count: u64,
+    source: Source,
+}
+
+impl Task for OddAliases<'_> {
+    fn at_write(&mut self, found: &Found) -> Result<(), Stop> {
+        if found.odd_alias {
+            notes::odd_alias(self.pen, &mut self.count, self.source, found.write)?;
+        }
+        Ok(())
+    }
+}
+
+// The writes to a shared register between the blocks are counted.
+#[derive(Clone, Copy)]
+struct SharedInBlocks {
+    count: u64,
+}
+
+impl Task for SharedInBlocks {
+    fn at_write(&mut self, found: &Found) -> Result<(), Stop> {
+        self.count = self.count.wrapping_add(u64::from(found.shared_in_block));
+        Ok(())
+    }
 }
 
 // Everything that looks wrong.
-fn wrong(
-    reading: Reading<'_>,
-    path: &[u8],
-    pen: Pen,
-    hub: Hub,
-    state: RegistersWithOrigins,
-    ticks: Ticks,
-    counts: Counts,
-) -> Pen {
+fn wrong(pen: &mut Pen, reading: &Reading<'_>, facts: &Facts) -> Result<(), Stop> {
     let file = reading.file;
-    let begun = page::new_list(pen);
-    let again = tell_if(reading, path, Task::Again, counts.again, begun);
-    let blocks = things::more(again, 0);
-    let clashes = clash_list::clash_list(blocks, Wanted::Wrong, file, hub, state);
-    let before = clashes.count;
-    let no_port = tell_if(reading, path, Task::NoPort(before), counts.no_port, clashes);
-    let writes = things::more(no_port, before);
-    let all = not_set_up(writes, file, hub, state, ticks);
-    all.pen
-}
-
-// What is shared as meant.
-fn meant(file: File<'_>, pen: Pen, hub: Hub, state: RegistersWithOrigins) -> Pen {
-    let list = clash_list::clash_list(page::new_list(pen), Wanted::Meant, file, hub, state);
-    list.pen
+    let mut count = 0;
+    if facts.counts.again != 0 {
+        reading.go_through(&mut SelectedAgain::new(pen, &mut count, file))?;
+    }
+    things::more(pen, count, 0)?;
+    clash_list::clash_list(pen, &mut count, Grade::Wrong, file, &facts.end)?;
+    let before = count;
+    if facts.counts.no_port != 0 {
+        reading.go_through(&mut NoPort {
+            pen,
+            count: &mut count,
+            before,
+            file,
+        })?;
+    }
+    things::more(pen, count, before)?;
+    Ok(things::not_set_up(pen, &mut count, file, &facts.end, facts.ticks)?)
 }
 
 // The notes of a kind, with the numbers of their writes.
-fn note(reading: Reading<'_>, path: &[u8], kind: Kind, count: u64, pen: Pen) -> Pen {
+fn note(pen: &mut Pen, reading: &Reading<'_>, kind: Kind, count: u64) -> Result<(), Stop> {
     if count == 0 {
-        return pen;
+        return Ok(());
     }
-    let begun = notes::begin(pen, reading.file.is_trace, kind, count);
-    let list = page::new_list(begun);
-    numbers::end(reading::tell(reading, path, Task::Numbers(kind), list))
+    notes::begin(pen, reading.file.source, kind, count)?;
+    if kind == Kind::PortTwice {
+        return numbers::of_blocks(pen, reading);
+    }
+    numbers::of_kind(pen, reading, kind)
 }
 
-// The odd values of aliases, each explained.
-fn odd_aliases(reading: Reading<'_>, path: &[u8], count: u64, pen: Pen) -> Pen {
+// The odd values of aliases.
+fn odd_aliases(pen: &mut Pen, reading: &Reading<'_>, count: u64) -> Result<(), Stop> {
     if count == 0 {
-        return pen;
+        return Ok(());
     }
-    let list = page::new_list(notes::named(pen, Kind::OddAlias, count));
-    notes::end_values(reading::tell(reading, path, Task::OddAliases, list))
+    notes::named(pen, Kind::OddAlias, count)?;
+    let mut told = OddAliases {
+        pen,
+        count: 0,
+        source: reading.file.source,
+    };
+    reading.go_through(&mut told)?;
+    let told = told.count;
+    Ok(notes::end_values(pen, told)?)
 }
 
 // How many writes go to a shared register between the blocks: where the blocks may be run in any order there is none.
-fn count_shared(reading: Reading<'_>, path: &[u8], any_order: bool) -> Listed {
-    let nothing = page::new_list(page::start(reading.out));
-    if any_order {
-        return nothing;
+fn count_shared(reading: &Reading<'_>, any_order: bool) -> Result<u64, Stop> {
+    let mut shared = SharedInBlocks { count: 0 };
+    if !any_order {
+        reading.go_through(&mut shared)?;
     }
-    reading::tell(reading, path, Task::Count(Kind::SharedInBlock), nothing)
+    Ok(shared.count)
 }
 
-// The notes that are found at a write; `shared` is how many go to a shared register between the blocks.
-fn notes_at_writes(
-    reading: Reading<'_>,
-    path: &[u8],
-    pen: Pen,
+// The notes, `shared` of them on writes to a shared register between the blocks.
+fn notes_with(
+    pen: &mut Pen,
+    reading: &Reading<'_>,
+    facts: &Facts,
     shared: u64,
-    counts: Counts,
-) -> Pen {
-    let twice = note(reading, path, Kind::PortTwice, counts.twice, pen);
-    let inside = note(reading, path, Kind::SharedInBlock, shared, twice);
-    let followed = note(
-        reading,
-        path,
-        Kind::NotFollowed,
-        counts.not_followed,
-        inside,
-    );
-    let ignored = note(
-        reading,
-        path,
-        Kind::BitsIgnored,
-        counts.bits_ignored,
-        followed,
-    );
-    let no_change = note(reading, path, Kind::NoChange, counts.no_change, ignored);
-    odd_aliases(reading, path, counts.odd_alias, no_change)
-}
-
-// Whether there is a note.
-fn has_notes(hub: Hub, shared: u64, counts: Counts) -> bool {
-    shared != 0
-        || counts.twice != 0
-        || counts.not_followed != 0
-        || counts.bits_ignored != 0
-        || counts.no_change != 0
-        || counts.odd_alias != 0
-        || reached::ports_without_address(hub) != 0
-}
-
-fn all_notes(
-    reading: Reading<'_>,
-    path: &[u8],
-    pen: Pen,
-    hub: Hub,
-    any_order: bool,
-    counts: Counts,
-) -> Pen {
-    let shared = count_shared(reading, path, any_order);
-    if !shared.pen.ok {
-        return shared.pen;
-    }
-    if !has_notes(hub, shared.count, counts) {
-        return pen;
-    }
-    let begun = notes::heading(pen);
-    let noted = notes_at_writes(reading, path, begun, shared.count, counts);
-    notes::no_address(noted, hub)
-}
-
-pub(crate) fn print(reading: Reading<'_>, path: &[u8], facts: Facts) -> Pen {
-    let hub = facts.hub;
-    let state = facts.state;
+) -> Result<(), Stop> {
     let counts = facts.counts;
-    let given = reading.hub;
-    let start = given.start;
-    let named = title::file_on_hub(page::start(reading.out), path, given.address, start);
-    let things = facts::count_wrong(facts);
-    let counted = closing::count_of_things(named, facts::write_counts(facts), things);
-    let told = wrong(reading, path, counted, hub, state, facts.ticks, counts);
-    let meant = meant(reading.file, told, hub, state);
-    all_notes(reading, path, meant, hub, facts.any_order, counts)
+    notes::heading(pen)?;
+    note(pen, reading, Kind::PortTwice, counts.twice)?;
+    note(pen, reading, Kind::SharedInBlock, shared)?;
+    note(pen, reading, Kind::NotFollowed, counts.not_followed)?;
+    note(pen, reading, Kind::BitsIgnored, counts.bits_ignored)?;
+    note(pen, reading, Kind::NoChange, counts.no_change)?;
+    odd_aliases(pen, reading, counts.odd_alias)?;
+    Ok(notes::no_address(pen, &facts.end)?)
+}
+
+fn all_notes(pen: &mut Pen, reading: &Reading<'_>, facts: &Facts) -> Result<(), Stop> {
+    let shared = count_shared(reading, facts.any_order)?;
+    let counts = facts.counts;
+    let at_writes = [
+        counts.twice,
+        shared,
+        counts.not_followed,
+        counts.bits_ignored,
+        counts.no_change,
+        counts.odd_alias,
+    ];
+    if at_writes == [0; 6] && addresses::ports_without_address(facts.end.hub) == 0 {
+        return Ok(());
+    }
+    notes_with(pen, reading, facts, shared)
+}
+
+pub(crate) fn print(pen: &mut Pen, reading: &Reading<'_>, facts: &Facts) -> Result<(), Stop> {
+    title::file_on_hub(pen, reading.path, reading.hub.address, reading.hub.start)?;
+    closing::count_of_things(pen, facts.write_counts(), facts.wrong)?;
+    wrong(pen, reading, facts)?;
+    let mut count = 0;
+    clash_list::clash_list(pen, &mut count, Grade::Meant, reading.file, &facts.end)?;
+    all_notes(pen, reading, facts)
 }

@@ -1,72 +1,80 @@
 // The whole object, with every finding: those at a write of one kind after the other, by one way through the file each.
 use crate::facts::Facts;
-use crate::reading;
+use crate::found::Found;
 use crate::reading::Reading;
-use crate::told::{HubStart, Task};
-use hub::Hub;
-use object::ended;
-use origins::RegistersWithOrigins;
-use page::{Listed, Pen};
-use std::io::Stdout;
+use crate::stop::Stop;
+use crate::walk::Task;
+use object::{ended, findings};
+use page::Pen;
+use std::io::Result as Written;
 use words::kinds::Kind;
 
-fn of_kind(reading: Reading<'_>, path: &[u8], kind: Kind, list: Listed) -> Listed {
-    reading::tell(reading, path, Task::Object(kind), list)
+// The findings of a kind at the writes are told; how many of the object's findings were.
+#[derive(Drop)]
+struct OfKind<'a> {
+    pen: &'a mut Pen,
+    count: &'a mut u64,
+    kind: Kind,
 }
 
-// The findings that are wrong or meant: replaced, same-channel, same-address, no-port and not-set-up.
-fn wrong_or_meant(
-    reading: Reading<'_>,
-    path: &[u8],
-    hub: Hub,
-    state: RegistersWithOrigins,
-    list: Listed,
-) -> Listed {
-    let replaced = of_kind(reading, path, Kind::Replaced, list);
-    let channels = ended::same_channel(replaced, hub, state);
-    let addresses = ended::same_address(channels, hub, state);
-    let no_port = of_kind(reading, path, Kind::NoPort, addresses);
-    ended::not_set_up(no_port, hub, state)
+impl OfKind<'_> {
+    // One finding more, with the number of an earlier write, 0 for none as the theorems on origins have it, and the
+    // ports that it concerns.
+    fn tell(&mut self, found: &Found, earlier: u64, ports: u8) -> Written<()> {
+        findings::at_write(self.pen, self.count, self.kind, earlier, found.write, ports)
+    }
+
+    // The number of the earlier write that a finding of the port has, if there is one.
+    fn earlier(&self, found: &Found, port: u8) -> Option<u64> {
+        match self.kind {
+            Kind::Replaced => found.port(port).replaced,
+            Kind::PortTwice => found.port(port).earlier,
+            _ => None,
+        }
+    }
 }
 
-// The notes that are found at a write.
-fn notes(reading: Reading<'_>, path: &[u8], list: Listed) -> Listed {
-    let twice = of_kind(reading, path, Kind::PortTwice, list);
-    let shared = of_kind(reading, path, Kind::SharedInBlock, twice);
-    let not_followed = of_kind(reading, path, Kind::NotFollowed, shared);
-    let ignored = of_kind(reading, path, Kind::BitsIgnored, not_followed);
-    let no_change = of_kind(reading, path, Kind::NoChange, ignored);
-    of_kind(reading, path, Kind::OddAlias, no_change)
+impl Task for OfKind<'_> {
+    fn at_write(&mut self, found: &Found) -> Result<(), Stop> {
+        for port in 0..4 {
+            if let Some(earlier) = self.earlier(found, port) {
+                self.tell(found, earlier, ports::mask_of_port(port))?;
+            }
+        }
+        if found.is_found(self.kind) {
+            self.tell(found, 0, found.reached)?;
+        }
+        Ok(())
+    }
 }
 
-// Up to the findings.
-fn begin(
-    out: Stdout,
-    given: HubStart,
-    facts: Facts,
-    hub: Hub,
-    state: RegistersWithOrigins,
-) -> Listed {
-    let start = given.start;
-    let begun = object::begin(
-        page::start(out),
-        given.address,
-        start,
-        facts.writes,
-        facts.any_order,
-    );
-    let routes = object::routes::all(begun, hub, state);
-    let addresses = object::addresses::all(routes, hub, state);
-    page::new_list(object::begin_findings(addresses))
+pub(crate) fn print(pen: &mut Pen, reading: &Reading<'_>, facts: &Facts) -> Result<(), Stop> {
+    let hub = reading.hub;
+    let end = &facts.end;
+    object::begin(pen, hub.address, hub.start, facts.writes, facts.any_order)?;
+    object::routes::all(pen, end)?;
+    object::addresses::all(pen, end)?;
+    object::begin_findings(pen)?;
+    let mut count = 0;
+    of_kind(pen, &mut count, reading, Kind::Replaced)?;
+    ended::same_channel(pen, &mut count, end)?;
+    ended::same_address(pen, &mut count, end)?;
+    of_kind(pen, &mut count, reading, Kind::NoPort)?;
+    ended::not_set_up(pen, &mut count, end)?;
+    for kind in [
+        Kind::PortTwice,
+        Kind::SharedInBlock,
+        Kind::NotFollowed,
+        Kind::BitsIgnored,
+        Kind::NoChange,
+        Kind::OddAlias,
+    ] {
+        of_kind(pen, &mut count, reading, kind)?;
+    }
+    ended::no_address(pen, &mut count, end)?;
+    Ok(object::end(pen)?)
 }
 
-pub(crate) fn print(reading: Reading<'_>, path: &[u8], facts: Facts) -> Pen {
-    let hub = facts.hub;
-    let state = facts.state;
-    let given = reading.hub;
-    let begun = begin(reading.out, given, facts, hub, state);
-    let wrong = wrong_or_meant(reading, path, hub, state, begun);
-    let noted = notes(reading, path, wrong);
-    let told = ended::no_address(noted, hub, state);
-    object::end(told.pen)
+fn of_kind(pen: &mut Pen, count: &mut u64, reading: &Reading<'_>, kind: Kind) -> Result<(), Stop> {
+    reading.go_through(&mut OfKind { pen, count, kind })
 }

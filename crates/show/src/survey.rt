@@ -1,113 +1,119 @@
-// Everything that is found at the writes, counted by one way through them.
+// The first way through the writes: everything that is found at them is counted, and nothing is told.
+use crate::block::Block;
 use crate::found::Found;
-use crate::told::{Counts, Told};
-use crate::{block, found, told};
+use crate::stop::Stop;
+use crate::walk::Task;
 use findings::by_effect;
-use screens::bus::Lost;
+use screens::bus::LostAlias;
 
-// One write more of each kind that is found at it.
-fn counted(counts: Counts, found: Found) -> Counts {
-    Counts {
-        again: counts.again,
-        twice: counts.twice,
-        no_port: told::one_more_if(counts.no_port, found.no_port),
-        not_followed: told::one_more_if(counts.not_followed, found.not_followed),
-        bits_ignored: told::one_more_if(counts.bits_ignored, found.bits_ignored),
-        no_change: told::one_more_if(counts.no_change, found.no_change),
-        odd_alias: told::one_more_if(counts.odd_alias, found.odd_alias),
+// How many blocks select a port again and replace something, how many do so and replace nothing, and how many writes
+// there are of the other kinds.
+#[derive(Clone, Copy)]
+pub(crate) struct Counts {
+    pub again: u64,
+    pub twice: u64,
+    pub no_port: u64,
+    pub not_followed: u64,
+    pub bits_ignored: u64,
+    pub no_change: u64,
+    pub odd_alias: u64,
+}
+
+// The counts, the block that is gone through, and for each address the alias that lost it, if one did.
+#[derive(Clone, Copy)]
+pub(crate) struct Survey {
+    pub counts: Counts,
+    block: Block,
+    pub lost: [Option<LostAlias>; 128],
+}
+
+fn one_more_if(count: u64, is_found: bool) -> u64 {
+    count.wrapping_add(u64::from(is_found))
+}
+
+impl Counts {
+    fn none() -> Counts {
+        Counts {
+            again: 0,
+            twice: 0,
+            no_port: 0,
+            not_followed: 0,
+            bits_ignored: 0,
+            no_change: 0,
+            odd_alias: 0,
+        }
+    }
+
+    // One write more of each kind that is found at it.
+    fn add(&mut self, found: &Found) {
+        self.no_port = one_more_if(self.no_port, found.no_port);
+        self.not_followed = one_more_if(self.not_followed, found.not_followed);
+        self.bits_ignored = one_more_if(self.bits_ignored, found.bits_ignored);
+        self.no_change = one_more_if(self.no_change, found.no_change);
+        self.odd_alias = one_more_if(self.odd_alias, found.odd_alias);
     }
 }
 
-// After the last write, too, a block is over: counted where it selects a port again and replaces nothing.
-pub(crate) fn at_end(told: Told) -> Told {
-    let mut next = told;
-    let mut counts = told.counts;
-    counts.twice = told::one_more_if(counts.twice, block::is_harmless(told.block));
-    next.counts = counts;
-    next
-}
-
-// Where the write is a selection, one block is over and the next begins.
-fn select(told: Told, found: Found) -> Told {
-    if !found::is_selection(found) {
-        return told;
+impl Survey {
+    // Nothing was found yet.
+    pub(crate) fn new() -> Survey {
+        Survey {
+            counts: Counts::none(),
+            block: Block::none(),
+            lost: [None; 128],
+        }
     }
-    let mut next = at_end(told);
-    let begun = block::begin(found);
-    next.block = begun;
-    next
-}
 
-// The address of an alias that a port does not hear any more, with the origin of the alias, 0 for none.
-fn lose(lost: Lost, found: Found, port: u8) -> Lost {
-    let mut next = lost;
-    let set = found::lost_at(found, port);
-    if set == 0 {
-        return next;
+    // A block is over: counted where it selects a port again and replaces nothing.
+    fn end_block(&mut self) {
+        self.counts.twice = one_more_if(self.counts.twice, self.block.is_harmless());
     }
-    let at = (found::old_value(found, port) / 2 % 128) as usize;
-    next.set[at] = set;
-    next.changed[at] = found.write.number;
-    next.wrong[at] = 0;
-    if found::replaced_at(found, port) != 0 {
-        next.wrong[at] = 1;
+
+    // The write replaces registers of ports: the first such of a block is counted.
+    fn replace(&mut self, found: &Found) {
+        let before = self.block.replaced;
+        self.block.replace(found);
+        let is_first = before == 0 && self.block.replaced != 0;
+        self.counts.again = one_more_if(self.counts.again, is_first);
     }
-    next
-}
 
-// An address that an alias gets is not lost any more.
-fn regain(lost: Lost, found: Found) -> Lost {
-    let mut next = lost;
-    if found.reached == 0 || !by_effect::is_alias_register(found.write.offset) {
-        return next;
+    // The address of an alias that a port does not hear any more.
+    fn lose(&mut self, found: &Found, port: u8) {
+        let on = found.port(port);
+        if let Some(set) = on.lost {
+            self.lost[(on.old / 2) as usize] = Some(LostAlias {
+                set,
+                changed: found.write.number,
+                is_wrong: on.replaced.is_some(),
+            });
+        }
     }
-    let at = (found.write.value / 2 % 128) as usize;
-    next.set[at] = 0;
-    next.changed[at] = 0;
-    next
-}
 
-// The addresses that are lost after a write.
-fn lost_after(lost: Lost, found: Found) -> Lost {
-    let port_0 = lose(lost, found, 0);
-    let port_1 = lose(port_0, found, 1);
-    let port_2 = lose(port_1, found, 2);
-    regain(lose(port_2, found, 3), found)
-}
-
-// The register of a port is replaced: the first such of a block is counted.
-fn replace(told: Told, port: u8) -> Told {
-    let mut next = told;
-    let mut counts = told.counts;
-    let before = told.block;
-    counts.again = told::one_more_if(counts.again, before.replaced == 0);
-    next.counts = counts;
-    let after = block::with_replaced(before, port);
-    next.block = after;
-    next
-}
-
-fn at_port(told: Told, found: Found, port: u8) -> Told {
-    if found::replaced_at(found, port) == 0 {
-        return told;
+    // An address that an alias gets is not lost any more.
+    fn regain(&mut self, found: &Found) {
+        if found.reached != 0 && by_effect::is_alias_register(found.write.offset) {
+            self.lost[(found.write.value / 2) as usize] = None;
+        }
     }
-    replace(told, port)
 }
 
-// What the write replaces on the four ports.
-pub(crate) fn at_ports(told: Told, found: Found) -> Told {
-    let port_0 = at_port(told, found, 0);
-    let port_1 = at_port(port_0, found, 1);
-    let port_2 = at_port(port_1, found, 2);
-    at_port(port_2, found, 3)
-}
+impl Task for Survey {
+    fn at_write(&mut self, found: &Found) -> Result<(), Stop> {
+        if found.is_selection() {
+            self.end_block();
+            self.block = Block::begin(found);
+        }
+        self.counts.add(found);
+        self.replace(found);
+        for port in 0..4 {
+            self.lose(found, port);
+        }
+        self.regain(found);
+        Ok(())
+    }
 
-pub(crate) fn at_write(told: Told, found: Found) -> Told {
-    let mut next = select(told, found);
-    let counts = counted(next.counts, found);
-    next.counts = counts;
-    let mut after = at_ports(next, found);
-    let lost = lost_after(after.lost, found);
-    after.lost = lost;
-    after
+    fn at_end(&mut self) -> Result<(), Stop> {
+        self.end_block();
+        Ok(())
+    }
 }

@@ -1,181 +1,142 @@
 // A way through the writes of the file, from its start to its end.
-use crate::source::{Next, Source};
-use crate::told::{HubStart, Job, Told, Write};
-use crate::{found, source, telling};
+use crate::found::Found;
+use crate::reading::Reading;
+use crate::source::{HubStart, Next, Position};
+use crate::stop::Stop;
+use crate::{found, source};
+use console::say;
 use console::say::Command;
-use console::{input, say};
+use console::status::NotDone;
 use findings::WritesSoFar;
+use origins::NumberedWrite;
 use registers::power_up;
-use std::num::{wrapping_add_u8, wrapping_add_u64};
 
-// After some writes: the hub's own address and start, how many writes there were, what is known after them, and what
-// was told.
+// So many writes pass between two signs of life.
+const WRITES_OF_A_SIGN: u64 = 1048576;
+
+// What is done on a way through the writes: at each one, with what is found at it, and after the last one.
+pub(crate) trait Task {
+    fn at_write(&mut self, found: &Found) -> Result<(), Stop>;
+
+    fn at_end(&mut self) -> Result<(), Stop> {
+        Ok(())
+    }
+}
+
+// After some writes: where the file is read to, the hub, how many writes there were, and what is known after them.
 #[derive(Clone, Copy)]
 pub(crate) struct Run {
+    pub position: Position,
     pub hub: HubStart,
     pub writes: u64,
     pub known: WritesSoFar,
-    pub told: Told,
-}
-
-// How far the file is gone through: the source, the run, and whether nothing is left or the file cannot be read.
-#[derive(Clone, Copy)]
-pub(crate) struct Walk {
-    pub source: Source,
-    pub run: Run,
-    pub over: bool,
-    pub failed: bool,
-}
-
-// Before the first write, on a hub as it starts.
-fn begin(is_trace: bool, hub: HubStart, told: Told) -> Walk {
-    let source = source::begin(is_trace);
-    let start = hub.start;
-    let known = findings::start(power_up::registers_at(start));
-    Walk {
-        source,
-        run: Run {
-            hub,
-            writes: 0,
-            known,
-            told,
-        },
-        over: false,
-        failed: false,
-    }
 }
 
 // A sign of life for each million of writes.
 fn say_alive(command: Command, writes: u64) {
-    if writes % 1048576 == 1048575 {
-        say::words(command, b"still at work\n");
+    if writes % WRITES_OF_A_SIGN == WRITES_OF_A_SIGN - 1 {
+        say::words(command, "still at work");
     }
 }
 
-// One write more.
-fn take_write(command: Command, job: Job<'_>, run: Run, write: Write) -> Run {
-    say_alive(command, run.writes);
-    let before = run.known;
-    let task = job.task;
-    let file = job.file;
-    let found = found::at(before, run.hub.address, job.whole, write);
-    let told = telling::at_write(task, file, run.told, found);
-    let known = findings::step(before, write.number, write.offset, write.value);
-    let hub = run.hub;
-    Run {
-        hub,
-        writes: wrapping_add_u64(run.writes, 1),
-        known,
-        told,
-    }
-}
-
-// The writes of one number, at successive offsets.
-fn take_writes(
-    command: Command,
-    job: Job<'_>,
-    run: Run,
-    number: u64,
-    first: u8,
-    values: &[u8],
-    count: usize,
-) -> Run {
-    let mut next = run;
-    let mut offset = first;
-    for i in 0..count {
-        let value = buffers::byte_at(values, i);
-        let write = Write {
-            number,
-            offset,
-            value,
-        };
-        next = take_write(command, job, next, write);
-        offset = wrapping_add_u8(offset, 1);
-    }
-    next
-}
-
-// What a turn gave.
-fn take(command: Command, job: Job<'_>, run: Run, came: Next, values: &[u8]) -> Run {
-    let mut next = run;
-    match came {
-        Next::Nothing => next,
-        Next::Hub { address, start } => {
-            let known = findings::start(power_up::registers_at(start));
-            let hub = HubStart { address, start };
-            next.hub = hub;
-            next.known = known;
-            next
+impl Run {
+    // Before the first write.
+    fn new(reading: &Reading<'_>) -> Run {
+        let hub = reading.hub;
+        Run {
+            position: source::begin(reading.file.source),
+            hub,
+            writes: 0,
+            known: findings::start(power_up::registers_at(hub.start)),
         }
-        Next::Writes {
-            number,
-            offset,
-            count,
-        } => take_writes(command, job, next, number, offset, values, count),
+    }
+
+    // The hub is another one, as it starts.
+    fn start_hub(&mut self, hub: HubStart) {
+        self.hub = hub;
+        self.known = findings::start(power_up::registers_at(hub.start));
+    }
+
+    // One write more.
+    fn take_write<T: Task>(
+        &mut self,
+        reading: &Reading<'_>,
+        task: &mut T,
+        write: NumberedWrite,
+    ) -> Result<(), Stop> {
+        say_alive(reading.command, self.writes);
+        let found = found::at(&self.known, self.hub.address, reading.whole, write);
+        task.at_write(&found)?;
+        self.known = findings::step(self.known, write);
+        self.writes = self.writes.wrapping_add(1);
+        Ok(())
+    }
+
+    // The writes of one number, at successive offsets.
+    fn take_burst<T: Task>(
+        &mut self,
+        reading: &Reading<'_>,
+        task: &mut T,
+        number: u64,
+        first: u8,
+        values: &[u8],
+    ) -> Result<(), Stop> {
+        let mut offset = first;
+        for value in values {
+            let write = NumberedWrite {
+                number,
+                offset,
+                value: *value,
+            };
+            self.take_write(reading, task, write)?;
+            offset = offset.wrapping_add(1);
+        }
+        Ok(())
+    }
+
+    // Reads on, and takes what came; whether nothing is left.
+    fn take_turn<T: Task>(
+        &mut self,
+        reading: &Reading<'_>,
+        task: &mut T,
+        buffer: &mut [u8],
+        values: &mut [u8],
+    ) -> Result<bool, Stop> {
+        let turn = source::turn(reading.input(), self.position, buffer, values)?;
+        self.position = turn.position;
+        match turn.next {
+            None => {}
+            Some(Next::Hub(hub)) => self.start_hub(hub),
+            Some(Next::Write(write)) => self.take_write(reading, task, write)?,
+            Some(
+                Next::Burst {
+                    number,
+                    offset,
+                    count,
+                },
+            ) => {
+                let end = count.min(values.len());
+                self.take_burst(reading, task, number, offset, &values[..end])?;
+            }
+        }
+        Ok(turn.done)
     }
 }
 
-// Reads on, and takes what came.
-fn take_turn(
-    command: Command,
-    job: Job<'_>,
-    path: &[u8],
-    walk: Walk,
+// Goes through the file from its start. The turns are counted, to a number that no file uses up.
+pub(crate) fn through<T: Task>(
+    reading: &Reading<'_>,
+    task: &mut T,
     buffer: &mut [u8],
-    values: &mut [u8],
-) -> Walk {
-    let turn = source::turn(command, job.file.opened, path, walk.source, buffer, values);
-    let source = turn.source;
-    let came = turn.next;
-    let run = take(command, job, walk.run, came, values);
-    Walk {
-        source,
-        run,
-        over: turn.done,
-        failed: turn.failed,
+) -> Result<Run, Stop> {
+    reading.rewind()?;
+    let mut values = io::buffer();
+    let mut run = Run::new(reading);
+    for _ in 0..u64::MAX {
+        if run.take_turn(reading, task, buffer, &mut values)? {
+            task.at_end()?;
+            return Ok(run);
+        }
     }
-}
-
-// Goes through the file. The turns are counted down, from a number that no file uses up.
-fn take_all(
-    command: Command,
-    job: Job<'_>,
-    path: &[u8],
-    begun: Walk,
-    buffer: &mut [u8],
-    values: &mut [u8],
-) -> Walk {
-    let mut walk = begun;
-    let mut turns = u64::MAX;
-    while turns > 0 && !walk.over {
-        walk = take_turn(command, job, path, walk, buffer, values);
-        turns -= 1;
-    }
-    walk
-}
-
-// Goes through the file from its start, on that hub unless the file has another.
-pub(crate) fn through(
-    command: Command,
-    job: Job<'_>,
-    path: &[u8],
-    hub: HubStart,
-    told: Told,
-    buffer: &mut [u8],
-    values: &mut [u8],
-) -> Walk {
-    let begun = begin(job.file.is_trace, hub, told);
-    if let Err(error) = job.file.opened.go_to(job.file.start) {
-        input::say_unread(command, path, error);
-        return failed(begun);
-    }
-    take_all(command, job, path, begun, buffer, values)
-}
-
-// The file cannot be read.
-fn failed(walk: Walk) -> Walk {
-    let mut next = walk;
-    next.over = true;
-    next.failed = true;
-    next
+    Err(Stop::Said(NotDone::Failed))
 }
