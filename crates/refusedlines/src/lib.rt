@@ -44,6 +44,7 @@ fn name_shape(command: Command, line: &[u8], ended: bool, number: u64) {
 
 fn name_line(command: Command, line: &[u8], ended: bool, number: u64) {
     if LONGEST_LINE < line.len() {
+        // 0 is written: with `[..LONGEST_LINE]` the proof of the length did not close.
         name_long(command, &line[0..LONGEST_LINE], number);
     } else {
         name_shape(command, line, ended, number);

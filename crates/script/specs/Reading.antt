@@ -8,7 +8,7 @@ use Rattle.registers.specs.Bursts.{RegisterWrite}
 use Rattle.registers.specs.declared.power_up.PowerUp.{PowerUp}
 use Rattle.hub.specs.Hubs.{is_hub_address}
 use Rattle.calls.specs.ScriptLines.{script_line_read}
-use Rattle.script.specs.declared.TraceRefusal.{TraceRefusal}
+use Rattle.script.specs.declared.ScriptRefusal.{ScriptRefusal}
 use Rattle.script.specs.Grammar.{longest_script_line}
 use Rattle.script.specs.Refusals.{line_refusal_number}
 use Rattle.script.specs.Traces.{trace_of}
@@ -70,8 +70,8 @@ script_trace address start text size =
     cond (is_hub_address address) (trace_if_room address start size (script_calls text)) (refused 2)
 
 -- the paper's number and values for each case of the answer
-abbrev pub trace_answer_reply : Result ℕ TraceRefusal → Reply ℕ
+abbrev pub trace_answer_reply : Result ℕ ScriptRefusal → Reply ℕ
 trace_answer_reply (Ok bytes) = given bytes
-trace_answer_reply (Err TraceRefusal.AddressOutOfRange) = refused 2
-trace_answer_reply (Err (TraceRefusal.Line line)) = refused_at (line_refusal_number line.refusal) line.line
-trace_answer_reply (Err TraceRefusal.NoRoom) = refused 8
+trace_answer_reply (Err ScriptRefusal.AddressOutOfRange) = refused 2
+trace_answer_reply (Err (ScriptRefusal.Line line)) = refused_at (line_refusal_number line.refusal) line.line
+trace_answer_reply (Err ScriptRefusal.NoRoom) = refused 8

@@ -2,7 +2,7 @@
 -- Assumes nothing.
 use Rattle.std.specs.Prelude.{ℕ}
 use Rattle.script.specs.declared.LineRefusal.{LineRefusal}
-use Rattle.script.specs.declared.TraceRefusal.{TraceRefusal}
+use Rattle.script.specs.declared.ScriptRefusal.{ScriptRefusal}
 
 -- "15, over 200 bytes", "14, another shape"
 abbrev pub line_refusal_number : LineRefusal → ℕ
@@ -10,7 +10,7 @@ line_refusal_number LineRefusal.TooLong = 15
 line_refusal_number LineRefusal.OtherShape = 14
 
 -- "2 for the hub's address, first"; "8 last"
-abbrev pub trace_refusal_number : TraceRefusal → ℕ
-trace_refusal_number TraceRefusal.AddressOutOfRange = 2
-trace_refusal_number (TraceRefusal.Line refused) = line_refusal_number refused.refusal
-trace_refusal_number TraceRefusal.NoRoom = 8
+abbrev pub script_refusal_number : ScriptRefusal → ℕ
+script_refusal_number ScriptRefusal.AddressOutOfRange = 2
+script_refusal_number (ScriptRefusal.Line refused) = line_refusal_number refused.refusal
+script_refusal_number ScriptRefusal.NoRoom = 8

@@ -4,8 +4,8 @@
 ghost use Rattle.std.specs.Prelude.{◌≡◌, length};
 ghost use Rattle.laws.specs.Buffers.{Writes};
 ghost use Rattle.script.specs.declared.LineRefusal.{LineRefusal};
-ghost use Rattle.script.specs.declared.TraceRefusal.{TraceRefusal};
-ghost use Rattle.script.specs.Refusals.{line_refusal_number, trace_refusal_number};
+ghost use Rattle.script.specs.declared.ScriptRefusal.{ScriptRefusal};
+ghost use Rattle.script.specs.Refusals.{line_refusal_number, script_refusal_number};
 ghost use Rattle.script.specs.Reading.{script_calls, trace_if_room, script_trace, trace_answer_reply};
 
 use calls::OtherShape;
@@ -51,29 +51,29 @@ pub struct RefusedLine {
 
 // Why there is no trace.
 #[derive(Clone, Copy)]
-pub enum TraceRefusal {
+pub enum ScriptRefusal {
     AddressOutOfRange,
     Line(RefusedLine),
     NoRoom,
 }
 
-impl Refusal for TraceRefusal {
-    ghost number = { trace_refusal_number };
+impl Refusal for ScriptRefusal {
+    ghost number = { script_refusal_number };
 
     fn number(self) -> u8 {
         match self {
-            TraceRefusal::AddressOutOfRange => 2,
-            TraceRefusal::Line(refused) => refused.refusal.number(),
-            TraceRefusal::NoRoom => 8,
+            ScriptRefusal::AddressOutOfRange => 2,
+            ScriptRefusal::Line(refused) => refused.refusal.number(),
+            ScriptRefusal::NoRoom => 8,
         }
     }
 }
 
-impl From<RefusedLine> for TraceRefusal {
-    ghost from_gives = { λ line refusal. refusal ≡ TraceRefusal.Line line };
+impl From<RefusedLine> for ScriptRefusal {
+    ghost from_gives = { λ line refusal. refusal ≡ ScriptRefusal.Line line };
 
-    fn from(line: RefusedLine) -> TraceRefusal {
-        TraceRefusal::Line(line)
+    fn from(line: RefusedLine) -> ScriptRefusal {
+        ScriptRefusal::Line(line)
     }
 }
 
@@ -83,14 +83,14 @@ fn read_text(
     start: PowerUp,
     text: &[u8],
     out: &mut [u8],
-) -> Result<usize, TraceRefusal>
+) -> Result<usize, ScriptRefusal>
     ensures { Writes out.old 0
         (trace_if_room address start (length out.old) (script_calls text.now))
         (trace_answer_reply result) out.new }
 {
     let count = text::count_calls(text)?;
     if !buffers::has_room_for(out.len(), records::hub_length(start), count, WRITE_RECORD) {
-        return Err(TraceRefusal::NoRoom);
+        return Err(ScriptRefusal::NoRoom);
     }
     Ok(records::put_trace(out, address, start, text))
 }
@@ -102,13 +102,13 @@ pub fn to_trace(
     start: PowerUp,
     text: &[u8],
     out: &mut [u8],
-) -> Result<usize, TraceRefusal>
+) -> Result<usize, ScriptRefusal>
     ensures { Writes out.old 0
         (script_trace address start text.now (length out.old))
         (trace_answer_reply result) out.new }
 {
     if !hub::is_hub_address(address) {
-        return Err(TraceRefusal::AddressOutOfRange);
+        return Err(ScriptRefusal::AddressOutOfRange);
     }
     read_text(address, start, text, out)
 }
