@@ -69,7 +69,7 @@ pub extern "C" fn loopcinder_pack_raw10(pixels: &[u16], buf: &mut [u8], place: u
     pack_as(Format::Raw10, pixels, buf, place)
 }
 
-// The same for a pixel line of RAW12.
+// The same for a pixel line of RAW12. (Two functions, since C has these names.)
 #[unsafe(no_mangle)]
 pub extern "C" fn loopcinder_pack_raw12(pixels: &[u16], buf: &mut [u8], place: usize) -> u64
     ensures { WritesNumber buf.old place
@@ -113,7 +113,7 @@ pub extern "C" fn loopcinder_write_raw10_line(
     write_as(Format::Raw10, pixels, identifier, buf, place)
 }
 
-// The same for a pixel line of RAW12.
+// The same for a pixel line of RAW12. (Two functions, since C has these names.)
 #[unsafe(no_mangle)]
 pub extern "C" fn loopcinder_write_raw12_line(
     pixels: &[u16],

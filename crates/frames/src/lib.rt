@@ -90,7 +90,7 @@ pub struct Sent {
     pub bytes: usize,
 }
 
-// The answer, where None is an event that was dropped, and the hub after the event.
+// The answer, where None is an event that was dropped, and the hub after the event. (A refused event has a hub too.)
 #[derive(Clone, Copy)]
 pub struct AfterEvent {
     pub answer: Result<Option<Sent>, EventRefusal>,

@@ -18,8 +18,7 @@ fn number_of(last: LastFrame) -> u16
 {
     match last {
         LastFrame::NoFrame => 0,
-        LastFrame::Closed(_, number) => number,
-        LastFrame::Open(_, number) => number,
+        LastFrame::Closed(_, number) | LastFrame::Open(_, number) => number,
     }
 }
 

@@ -13,7 +13,8 @@ use registers::{PageAccess, RegisterFile, power_up};
 
 pub mod forwarding;
 
-// A port's last frame: none so far, or its format and number, and whether it is closed or open.
+// A port's last frame: none so far, or its format and number, and whether it is closed or open. (One enum of three
+// cases: docs/DECISIONS.md, 2.)
 #[derive(Clone, Copy)]
 pub enum LastFrame {
     NoFrame,
@@ -54,7 +55,8 @@ pub fn is_hub_address(address: u8) -> bool
     (0x08..=0x77).contains(&address)
 }
 
-// A hub with an own address, the registers that it starts with and four ports that have had no frame.
+// A hub with an own address, the registers that it starts with and four ports that have had no frame. (Any address:
+// `new` refuses those that may not be a hub's own.)
 #[tactic(auto, unfolding(crate::specs::Hubs::hub_with))]
 pub fn hub_with(address: u8, registers: RegisterFile) -> Hub
     ensures { result ≡ hub_with registers address }

@@ -13,7 +13,8 @@ use Rattle.packing.specs.Raw.{payload_of, width_allowed, all_fit}
 -- what the test of a pixel line finds: its width first, then its pixels
 unfoldable pub check_of : Format → List ℕ → Result Unit PixelRefusal
 check_of format pixels =
-    cond (width_allowed format (length pixels)) (cond (all_fit format pixels) (Ok tt) (Err PixelTooLarge)) (Err WidthNotAllowed)
+    cond (width_allowed format (length pixels))
+    (cond (all_fit format pixels) (Ok tt) (Err PixelTooLarge)) (Err WidthNotAllowed)
 
 -- 5: "width not allowed for the format"; 6: "a pixel does not fit the format"
 abbrev pub pixel_refusal_number : PixelRefusal → ℕ

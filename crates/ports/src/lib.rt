@@ -11,7 +11,7 @@ fn weight_if(is_in: bool, weight: u8) -> u8
     if is_in { weight } else { 0 }
 }
 
-// The mask of a set, by whether each port is in it.
+// The mask of a set, by whether each port is in it. (Beside `mask_of`, which calls it: it asks nothing of its caller.)
 pub fn mask_of_four(port_0: bool, port_1: bool, port_2: bool, port_3: bool) -> u8
     ensures { result ≡ mask_of_four port_0 port_1 port_2 port_3 }
 {

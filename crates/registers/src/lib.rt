@@ -16,6 +16,7 @@ pub mod scl;
 // The shared registers, and four pages of 256 registers, one page a port: register o of port p is pages[256 * p + o].
 // The entries of `shared` at per-port offsets and those of `pages` at shared ones keep their reset value: nothing reads
 // or writes them.
+// (Arrays, passed by value: docs/DECISIONS.md, 1.)
 #[derive(Clone, Copy)]
 pub struct RegisterFile {
     pub shared: [u8; 256],

@@ -26,7 +26,8 @@ pub struct PortDevice {
     pub remote: Remote,
 }
 
-// The devices that a write reaches, ports rising: at most one a port.
+// The devices that a write reaches, ports rising: at most one a port. (By count, and no list, so that no answer is one
+// that cannot occur: docs/DECISIONS.md, 3.)
 #[derive(Clone, Copy)]
 pub enum Devices {
     One(PortDevice),
@@ -108,7 +109,7 @@ impl Devices {
     }
 }
 
-// Whether the address is the hub's own, before the ports are asked.
+// Whether the address is the hub's own, before the ports are asked; above 0x7F it is refused.
 #[tactic(auto, unfolding(crate::specs::Translation::addressee_of))]
 fn is_own(hub: Hub, address: u8) -> Result<bool, WriteRefusal>
     ensures { addressee_reply result ≡ addressee_of hub address }
