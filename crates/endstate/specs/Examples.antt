@@ -66,7 +66,8 @@ unset_port port writes = not_set_up (hub_after writes) (state_after writes) port
 -- Ports 0 and 1, mask 3. By two lines it is wrong, by one it is meant; where one port has its start value it is wrong.
 -- FWD_CTL2 may ask for line interleaving, on that output. Two outputs share nothing.
 pub record ChannelExamples : Type 0 where
-  pub two_lines : on_channel 0 0 (two_blocks ++ one_output) ≡ record { grade = Some Wrong; ports = 3; lines = 5 ∷ 10 ∷ [] }
+  pub two_lines : on_channel 0 0 (two_blocks ++ one_output)
+      ≡ record { grade = Some Wrong; ports = 3; lines = 5 ∷ 10 ∷ [] }
   pub one_line : on_channel 0 0 (broadcast ++ one_output) ≡ record { grade = Some Meant; ports = 3; lines = 5 ∷ [] }
   pub start_value : on_channel 0 1 (one_port ++ one_output) ≡ record { grade = Some Wrong; ports = 3; lines = 5 ∷ [] }
   pub interleaved : on_channel 0 0 (two_blocks ++ (write 11 0x21 0x08 ∷ one_output))

@@ -89,6 +89,7 @@ fn lines_of_devices(state: RegistersWithOrigins, devices: Devices) -> Lines
     ensures { result ≡ lines_row (rising_lines (devices_origins state (devices_of devices))) }
 {
     let mut lines = lines::no_lines();
+    // From the last device down, counted up: the invariant is over how many were gone through.
     for k in 0..4usize {
         if let Some(device) = devices.get(3 - k) {
             lines = with_device(lines, state, device);
@@ -121,6 +122,7 @@ fn aliases_of_devices(state: RegistersWithOrigins, devices: Devices) -> Gathered
     ensures { result ≡ gathered_of (alias_origins state (devices_of devices)) }
 {
     let mut gathered = gathering::nothing();
+    // From the last device down, counted up: the invariant is over how many were gone through.
     for k in 0..4usize {
         if let Some(device) = devices.get(3 - k) {
             gathered = with_alias(gathered, state, device);

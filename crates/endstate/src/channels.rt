@@ -70,6 +70,7 @@ fn origins_of_ports(state: RegistersWithOrigins, mask: u8, offset: u8) -> Gather
         (port_numbers (λ port. bit port mask) (λ port. kept_number state (port_register port offset))) }
 {
     let mut gathered = gathering::nothing();
+    // From the last port down, counted up: the invariant is over how many were gone through.
     for k in 0..4u8 {
         gathered = with_port(gathered, state, mask, 3 - k, offset);
     }

@@ -33,7 +33,7 @@ pub fn with_origin(gathered: Gathered, number: u64) -> Gathered
     }
 }
 
-// Whether there is one line and every origin is it.
+// Whether there is one line and every origin is it: one test after the other, as the definition has them.
 pub fn is_one_line(gathered: Gathered) -> bool
     ensures { result ≡ gathered_one gathered }
 {

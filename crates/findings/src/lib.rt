@@ -10,7 +10,6 @@ use ordering::inside::Extent;
 use ordering::{Order, inside};
 use origins::{NumberedWrite, RegistersWithOrigins};
 use registers::{RegisterFile, map};
-use std::num::wrapping_add_u64;
 
 pub mod by_effect;
 pub mod on_order;
@@ -49,7 +48,7 @@ fn next_block(block: u64, offset: u8) -> u64
     ensures { result ≡ next_block block offset }
 {
     if offset as usize == map::FPD3_PORT_SEL {
-        return wrapping_add_u64(block, 1);
+        return block.wrapping_add(1);
     }
     block
 }

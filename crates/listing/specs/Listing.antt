@@ -1,6 +1,7 @@
 -- The text of a trace of hub and write records: L1.
 -- Assumes nothing.
-use Rattle.std.specs.Prelude.{◌≡◌, ℕ, zero, suc, ◌+◌, ◌<◌, ◌≤◌, Bool, true, false, cond, Result, List, [], ◌∷◌, ◌++◌, length, drop, ◌==◌, slice_index}
+use Rattle.std.specs.Prelude.{◌≡◌, ℕ, zero, suc, ◌+◌, ◌<◌, ◌≤◌, Bool, true, false, cond, Result, List, [], ◌∷◌, ◌++◌}
+use Rattle.std.specs.Prelude.{length, drop, ◌==◌, slice_index}
 use Rattle.laws.specs.Reply.{Reply, refused, given, on_reply, and_then, reply_by}
 use Rattle.laws.specs.Buffers.{if_room}
 use Rattle.laws.specs.Texts.{ascii}

@@ -40,19 +40,22 @@ pub(crate) fn begin(pen: &mut Pen, count: &mut u64, finding: Finding) -> io::Res
     )
 }
 
-// A finding at a write, with the number of an earlier write, 0 for none, and the ports that it concerns.
+// A finding at a write, with the number of an earlier write, if there is one, and the ports that it concerns.
 pub fn at_write(
     pen: &mut Pen,
     count: &mut u64,
     kind: Kind,
-    earlier: u64,
+    earlier: Option<u64>,
     write: NumberedWrite,
     ports: u8,
 ) -> io::Result<()> {
     let finding = Finding {
         kind,
         grade: grades::grade_at_write(kind),
-        lines: lines::with_line(lines::with_line(lines::no_lines(), earlier), write.number),
+        lines: lines::with_line(
+            lines::with_line(lines::no_lines(), earlier.unwrap_or(0)),
+            write.number,
+        ),
         ports,
     };
     begin(pen, count, finding)?;

@@ -1,6 +1,7 @@
 -- How the origins are kept beside the registers: a write puts its number at each register that it reaches.
 -- Assumes nothing.
-use Rattle.std.specs.Prelude.{◌≡◌, ℕ, ◌≤◌, cond, List, [], ◌∷◌, map, replicate, nat_lt, slice_index, slice_index_or, slice_set}
+use Rattle.std.specs.Prelude.{◌≡◌, ℕ, ◌≤◌, cond, List, [], ◌∷◌, map, replicate, nat_lt, slice_index, slice_index_or}
+use Rattle.std.specs.Prelude.{slice_set}
 use mathlib.Core.List.{Memᴰ}
 use Rattle.std.proofs.Math.Option.{Option, none, some}
 use Rattle.registers.specs.declared.RegisterFile.{RegisterFile}
@@ -55,7 +56,8 @@ write_numbered state write =
     let at = write.offset in
     record {
       registers = after_numbered file write;
-      origins = slice_set state.origins at (origins_after file write.number at (slice_index_or state.origins at past_last));
+      origins =
+          slice_set state.origins at (origins_after file write.number at (slice_index_or state.origins at past_last));
     }
 
 unfoldable pub write_numbered_each : RegistersWithOrigins → List NumberedWrite → RegistersWithOrigins

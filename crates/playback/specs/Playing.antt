@@ -1,6 +1,7 @@
 -- What the player prints for a trace, and the hub at its end: document 01, "The trace and the player".
 -- Assumes nothing.
-use Rattle.std.specs.Prelude.{ℕ, zero, suc, ◌+◌, Bool, true, false, cond, List, [], ◌∷◌, ◌++◌, length, take, drop, replicate, ◌==◌}
+use Rattle.std.specs.Prelude.{ℕ, zero, suc, ◌+◌, Bool, true, false, cond, List, [], ◌∷◌, ◌++◌, length, take, drop}
+use Rattle.std.specs.Prelude.{replicate, ◌==◌}
 use mathlib.Core.List.{Memᴰ}
 use Rattle.std.proofs.Math.Option.{Option}
 use Rattle.laws.specs.Reply.{Reply, refused_with, given, on_reply, is_refused}
@@ -15,7 +16,8 @@ use Rattle.trace.specs.Records.{TraceRecord, hub_record, write_record, read_reco
 use Rattle.trace.specs.Records.{start_record, end_record, pixel_line_record, record_of}
 use Rattle.answers.specs.declared.EventKind.{EventKind}
 use Rattle.answers.specs.declared.EventKind.TheVariants.{Start, PixelLine, End}
-use Rattle.answers.specs.Answers.{Answer, hub_made, values_written, register_read, write_heard, read_answered, event_done}
+use Rattle.answers.specs.Answers.{Answer, hub_made, values_written, register_read, write_heard, read_answered}
+use Rattle.answers.specs.Answers.{event_done}
 use Rattle.printing.specs.PrintedLines.{printed_line, printed_counts}
 
 -- What a record does: the hub after it, its answer, the lent packet buffer after it, and whether it ends the run.

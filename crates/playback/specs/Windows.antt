@@ -1,7 +1,8 @@
 -- How the source plays a window of a file, and the laws that make it right: what is printed for a window is the next
 -- part of the player's text.
 -- Assumes nothing.
-use Rattle.std.specs.Prelude.{◌≡◌, ℕ, zero, suc, ◌+◌, ◌%◌, ◌^◌, ◌<◌, ◌≤◌, Bool, true, false, cond, not, ◌&&◌, List, [], ◌++◌, length, drop, replicate, ◌==◌}
+use Rattle.std.specs.Prelude.{◌≡◌, ℕ, zero, suc, ◌+◌, ◌%◌, ◌^◌, ◌<◌, ◌≤◌, Bool, true, false, cond, not, ◌&&◌, List, []}
+use Rattle.std.specs.Prelude.{◌++◌, length, drop, replicate, ◌==◌}
 use Rattle.laws.specs.Reply.{is_refused}
 use Rattle.laws.specs.Buffers.{written, has_room}
 use Rattle.registers.specs.declared.power_up.PowerUp.TheVariants.{Boot}

@@ -1,7 +1,8 @@
 // One record of a trace, played on the hub.
 ghost use Rattle.std.specs.Prelude.{◌≡◌, ℕ, List};
 ghost use Rattle.trace.specs.Framing.{data_of};
-ghost use Rattle.trace.specs.Records.{hub_record, write_record, read_record, write_question, read_question, found_reply};
+ghost use Rattle.trace.specs.Records.{hub_record, write_record, read_record, write_question, read_question};
+ghost use Rattle.trace.specs.Records.{found_reply};
 ghost use Rattle.playback.specs.Playing.{play_asked, play_record};
 ghost use Rattle.playback.specs.PrivateContracts.{played_of};
 

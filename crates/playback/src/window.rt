@@ -10,6 +10,7 @@ use crate::{Session, WindowPlayed, record};
 // The bytes that have to be free for the line of a record: more than any line has.
 const TEXT_ROOM: usize = 128;
 
+// Whether there is a next record to take: one test after the other, as its definition has them.
 pub(crate) fn may_play(session: Session, left: &[u8], last: bool, size: usize, at: usize) -> bool
     ensures { result ≡ may_play_next session left.now last size at }
 {

@@ -13,7 +13,8 @@ use Rattle.translation.specs.Translation.{Addressed, the_hub, no_device, found}
 use Rattle.frames.specs.Events.{Outcome, dropped, sent}
 use Rattle.answers.specs.declared.EventKind.{EventKind}
 use Rattle.answers.specs.declared.EventKind.TheVariants.{Start, PixelLine, End}
-use Rattle.answers.specs.Answers.{Answer, hub_made, values_written, register_read, write_heard, read_answered, event_done}
+use Rattle.answers.specs.Answers.{Answer, hub_made, values_written, register_read, write_heard, read_answered}
+use Rattle.answers.specs.Answers.{event_done}
 
 -- "H address."
 abbrev pub hub_text : ℕ → List ℕ

@@ -1,12 +1,14 @@
 -- A script of any size, turn by turn. However its bytes are read, the work on it ends, and the records put out are
 -- those of the whole text, or the refusal is the text's.
 -- Assumes nothing.
-use Rattle.std.specs.Prelude.{◌≡◌, ℕ, ◌+◌, ◌*◌, ◌^◌, ◌<◌, ◌≤◌, Bool, true, cond, not, None, List, ◌++◌, length, take, ◌==◌}
+use Rattle.std.specs.Prelude.{◌≡◌, ℕ, ◌+◌, ◌*◌, ◌^◌, ◌<◌, ◌≤◌, Bool, true, cond, not, None, List, ◌++◌, length, take}
+use Rattle.std.specs.Prelude.{◌==◌}
 use Rattle.laws.specs.Reply.{Reply, refused_at, given, on_reply, and_then}
 use Rattle.laws.specs.Buffers.{written, if_room}
 use Rattle.registers.specs.declared.power_up.PowerUp.{PowerUp}
 use Rattle.hub.specs.Hubs.{is_hub_address}
-use Rattle.streams.specs.Streams.{new_window, after_read, nothing_left, Work, Way, way_from, TurnInput, all_turns, AllLend}
+use Rattle.streams.specs.Streams.{new_window, after_read, nothing_left, Work, Way, way_from, TurnInput, all_turns}
+use Rattle.streams.specs.Streams.{AllLend}
 use Rattle.streams.specs.Streams.{StandsAt, ReadGave, IsNextTurn}
 use Rattle.trace.specs.Framing.{record_bytes}
 use Rattle.trace.specs.Records.{hub_data}

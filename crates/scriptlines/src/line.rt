@@ -6,6 +6,7 @@ ghost use Rattle.scriptlines.specs.PrivateContracts.{TakesLine};
 use crate::{LinesTaken, ScriptRun};
 use script::records::WRITE_RECORD;
 
+// Whether there is a next line to take: one test after the other, as its definition has them.
 pub(crate) fn may_take_line(run: ScriptRun, left: &[u8], last: bool, size: usize, at: usize) -> bool
     ensures { result ≡ may_take_next (done_of run) left.now last size at }
 {

@@ -1,7 +1,8 @@
 -- The writes of a script of any size, turn by turn. However its bytes are read, the work on it ends, and the writes
 -- that it gave are those of the whole text, with the numbers of their lines, or the refusal is the text's.
 -- Assumes nothing.
-use Rattle.std.specs.Prelude.{◌≡◌, Bool, true, cond, Option, Some, None, List, [], ◌∷◌, ℕ, ◌+◌, ◌*◌, ◌^◌, ◌≤◌, ◌<◌, eqb, length, get_or, take}
+use Rattle.std.specs.Prelude.{◌≡◌, Bool, true, cond, Option, Some, None, List, [], ◌∷◌, ℕ, ◌+◌, ◌*◌, ◌^◌, ◌≤◌, ◌<◌, eqb}
+use Rattle.std.specs.Prelude.{length, get_or, take}
 use Rattle.laws.specs.Reply.{on_reply}
 use Rattle.laws.specs.Buffers.{written}
 use Rattle.streams.specs.Streams.{after_read, nothing_left, Work, Way, way_from, TurnInput, all_turns}

@@ -18,9 +18,8 @@ struct OfKind<'a> {
 }
 
 impl OfKind<'_> {
-    // One finding more, with the number of an earlier write, 0 for none as the theorems on origins have it, and the
-    // ports that it concerns.
-    fn tell(&mut self, found: &Found, earlier: u64, ports: u8) -> Written<()> {
+    // One finding more, with the number of an earlier write, if there is one, and the ports that it concerns.
+    fn tell(&mut self, found: &Found, earlier: Option<u64>, ports: u8) -> Written<()> {
         findings::at_write(self.pen, self.count, self.kind, earlier, found.write, ports)
     }
 
@@ -37,12 +36,13 @@ impl OfKind<'_> {
 impl Task for OfKind<'_> {
     fn at_write(&mut self, found: &Found) -> Result<(), Stop> {
         for port in 0..4 {
-            if let Some(earlier) = self.earlier(found, port) {
+            let earlier = self.earlier(found, port);
+            if earlier.is_some() {
                 self.tell(found, earlier, ports::mask_of_port(port))?;
             }
         }
         if found.is_found(self.kind) {
-            self.tell(found, 0, found.reached)?;
+            self.tell(found, None, found.reached)?;
         }
         Ok(())
     }

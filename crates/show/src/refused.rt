@@ -24,6 +24,7 @@ fn say_why(command: Command, refusal: TraceRefusal, record: Option<u64>, first: 
             command,
             format_args!("record {record} is cut short, or not one that a trace has there"),
         ),
+        // tracewrites gives that refusal a record always.
         (TraceRefusal::MalformedRecord, None) => {}
     }
 }

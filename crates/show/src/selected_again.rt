@@ -31,6 +31,7 @@ impl<'a> SelectedAgain<'a> {
 
     // The heading of a port that is selected again: a thing of its own for the first such port of a block.
     fn name_port(&mut self, port: u8) -> Written<()> {
+        // A register that is replaced was set in an earlier block, whose selection ticked the port.
         let Some(first) = self.block.earlier_of(port) else {
             return Ok(());
         };

@@ -1,6 +1,7 @@
 -- What the records of a trace ask: document 01, "The trace and the player", refusal 13, and L5.
 -- Assumes nothing.
-use Rattle.std.specs.Prelude.{Bool, cond, not, ◌&&◌, Option, Some, None, List, [], ◌∷◌, ℕ, ◌+◌, ◌*◌, eqb, leb, length, get_or, drop}
+use Rattle.std.specs.Prelude.{Bool, cond, not, ◌&&◌, Option, Some, None, List, [], ◌∷◌, ℕ, ◌+◌, ◌*◌, eqb, leb, length}
+use Rattle.std.specs.Prelude.{get_or, drop}
 use Rattle.laws.specs.Reply.{Reply, refused, given}
 use Rattle.registers.specs.declared.power_up.PowerUp.{PowerUp}
 use Rattle.registers.specs.declared.power_up.PowerUp.TheVariants.{Boot, Reset}

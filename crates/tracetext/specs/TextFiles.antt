@@ -5,7 +5,8 @@ use Rattle.std.specs.Prelude.{◌≡◌, ℕ, ◌+◌, ◌*◌, ◌^◌, ◌<◌
 use Rattle.laws.specs.Reply.{Reply, refused, given, on_reply}
 use Rattle.laws.specs.Buffers.{written}
 use Rattle.laws.specs.Elements.{AreBytes}
-use Rattle.streams.specs.Streams.{new_window, after_read, nothing_left, Work, Way, way_from, TurnInput, all_turns, AllLend, number_or_0}
+use Rattle.streams.specs.Streams.{new_window, after_read, nothing_left, Work, Way, way_from, TurnInput, all_turns}
+use Rattle.streams.specs.Streams.{AllLend, number_or_0}
 use Rattle.streams.specs.Streams.{StandsAt, ReadGave, IsNextTurn}
 use Rattle.trace.specs.Framing.{longest_record}
 use Rattle.listing.specs.Listing.{calls_text, trace_calls, longest_text}

@@ -1,6 +1,7 @@
 -- How the source puts the texts of a window's records one after the other: L1, for a trace of any size.
 -- Assumes nothing.
-use Rattle.std.specs.Prelude.{◌≡◌, ℕ, zero, suc, ◌+◌, ◌%◌, ◌^◌, ◌≤◌, Bool, cond, not, ◌&&◌, Option, Some, None, is_some, List, length, drop, ◌==◌}
+use Rattle.std.specs.Prelude.{◌≡◌, ℕ, zero, suc, ◌+◌, ◌%◌, ◌^◌, ◌≤◌, Bool, cond, not, ◌&&◌, Option, Some, None, is_some}
+use Rattle.std.specs.Prelude.{List, length, drop, ◌==◌}
 use Rattle.laws.specs.Reply.{Reply, refused_with, given}
 use Rattle.laws.specs.Buffers.{written, has_room}
 use Rattle.registers.specs.Bursts.{RegisterWrite}

@@ -10,6 +10,7 @@ use listing::{ListingRefusal, TextRefusal};
 // The bytes that have to be free for the text of a record: no record has more.
 const LONGEST_TEXT: usize = 5080;
 
+// Whether there is a next record to take: one test after the other, as its definition has them.
 pub(crate) fn may_list(run: TextRun, left: &[u8], last: bool, size: usize, at: usize) -> bool
     ensures { result ≡ may_list_next run left.now last size at }
 {

@@ -1,6 +1,7 @@
 -- How the source takes the next record of a window, one a turn.
 -- Assumes nothing.
-use Rattle.std.specs.Prelude.{◌≡◌, Bool, false, cond, not, ◌&&◌, Option, Some, None, is_some, unwrap_or, List, ℕ, ◌+◌, ◌-◌, ◌^◌, ◌≤◌, min, eqb, leb, length, take, drop}
+use Rattle.std.specs.Prelude.{◌≡◌, Bool, false, cond, not, ◌&&◌, Option, Some, None, is_some, unwrap_or, List, ℕ, ◌+◌}
+use Rattle.std.specs.Prelude.{◌-◌, ◌^◌, ◌≤◌, min, eqb, leb, length, take, drop}
 use Rattle.laws.specs.Reply.{Reply, refused_with, given}
 use Rattle.laws.specs.Buffers.{written}
 use Rattle.streams.specs.Streams.{new_window, after_read, nothing_left}
@@ -75,7 +76,8 @@ passed_as records left next =
 -- a hub record: 2 where the address is none that a hub has
 unfoldable pub taken_hub : ℕ → List ℕ → ℕ → PowerUp → RecordTaken
 taken_hub records left address start =
-    cond (is_hub_address address) (passed_as records left (Hub address start)) (not_passed records (Some AddressOutOfRange))
+    cond (is_hub_address address) (passed_as records left (Hub address start))
+    (not_passed records (Some AddressOutOfRange))
 
 -- what a record asks: the values of a write are put at the start of the lent buffer, and other records put nothing
 unfoldable pub take_asked : ℕ → List ℕ → List ℕ → TraceRecord → Taken

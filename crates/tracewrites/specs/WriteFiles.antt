@@ -1,7 +1,8 @@
 -- The register writes of a trace of any size, turn by turn: however its bytes are read, the work ends, and what the
 -- turns gave are the writes of the trace, or it is refused as the trace is.
 -- Assumes nothing.
-use Rattle.std.specs.Prelude.{◌≡◌, true, cond, Option, Some, None, List, [], ℕ, ◌+◌, ◌*◌, ◌^◌, ◌≤◌, ◌<◌, length, take, drop}
+use Rattle.std.specs.Prelude.{◌≡◌, true, cond, Option, Some, None, List, [], ℕ, ◌+◌, ◌*◌, ◌^◌, ◌≤◌, ◌<◌, length, take}
+use Rattle.std.specs.Prelude.{drop}
 use Rattle.laws.specs.Reply.{Reply, refused_at, given}
 use Rattle.laws.specs.Elements.{AreBytes}
 use Rattle.streams.specs.Streams.{Work, Way, way_from, TurnInput, all_turns, AllLend, number_or_0}

@@ -57,7 +57,8 @@ pub struct TraceFile {
     pub window: Window,
 }
 
-// What a turn gives: where the trace stands after it, the record that it took, if it took one, and whether nothing is left to do.
+// What a turn gives: where the trace stands after it, the record that it took, if it took one, and whether nothing is
+// left to do.
 #[derive(Clone, Copy)]
 pub struct RecordTurn {
     pub file: TraceFile,

@@ -10,6 +10,7 @@ use trace::Record;
 // The values that have to have room for a record to be taken: no record has more.
 const MOST_VALUES: usize = 254;
 
+// Whether there is a next record to take: one test after the other, as its definition has them.
 fn may_take_record(refusal: Option<TraceRefusal>, left: &[u8], last: bool, size: usize) -> bool
     ensures { result ≡ may_take_record refusal left.now last size }
 {

@@ -4,7 +4,8 @@
 use Rattle.std.specs.Prelude.{◌≡◌, Bool, true, List, ◌++◌, ℕ, ◌+◌, ◌*◌, ◌^◌, ◌≤◌, ◌<◌, length, take, replicate}
 use Rattle.laws.specs.Buffers.{written}
 use Rattle.laws.specs.Elements.{AreBytes}
-use Rattle.streams.specs.Streams.{new_window, after_read, nothing_left, Work, Way, way_from, TurnInput, all_turns, AllLend}
+use Rattle.streams.specs.Streams.{new_window, after_read, nothing_left, Work, Way, way_from, TurnInput, all_turns}
+use Rattle.streams.specs.Streams.{AllLend}
 use Rattle.streams.specs.Streams.{StandsAt, ReadGave, IsNextTurn}
 use Rattle.trace.specs.Framing.{longest_record}
 use Rattle.printing.specs.PrintedLines.{printed_counts}
