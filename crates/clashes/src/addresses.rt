@@ -34,10 +34,11 @@ pub fn address_reaches(hub: Hub, address: u8, port: u8) -> bool
 }
 
 // The ports that a write to an address reaches, as a mask.
+#[tactic(auto, unfolding(ports::specs::PortMasks::port_mask))]
 pub fn ports_of_address(hub: Hub, address: u8) -> u8
     ensures { result ≡ port_mask (address_reaches hub address) }
 {
-    ports::mask_of(|port| address_reaches(hub, address, port))
+    ports::mask_of([0, 1, 2, 3].map(|port| address_reaches(hub, address, port)))
 }
 
 // Whether a write to some address reaches a port.
@@ -61,8 +62,9 @@ pub fn has_no_address(hub: Hub, port: u8) -> bool
 }
 
 // The forwarded ports that no address reaches, as a mask.
+#[tactic(auto, unfolding(ports::specs::PortMasks::port_mask))]
 pub fn ports_without_address(hub: Hub) -> u8
     ensures { result ≡ port_mask (has_no_address hub) }
 {
-    ports::mask_of(|port| has_no_address(hub, port))
+    ports::mask_of([0, 1, 2, 3].map(|port| has_no_address(hub, port)))
 }

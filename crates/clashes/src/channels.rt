@@ -32,8 +32,9 @@ pub fn leaves_on(hub: Hub, format: Format, output: u8, channel: u8, port: u8) ->
 }
 
 // The ports whose frames, in a format, leave on an output and channel, as a mask.
+#[tactic(auto, unfolding(ports::specs::PortMasks::port_mask))]
 pub fn ports_on(hub: Hub, format: Format, output: u8, channel: u8) -> u8
     ensures { result ≡ port_mask (leaves_on hub format output channel) }
 {
-    ports::mask_of(|port| leaves_on(hub, format, output, channel, port))
+    ports::mask_of([0, 1, 2, 3].map(|port| leaves_on(hub, format, output, channel, port)))
 }

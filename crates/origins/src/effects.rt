@@ -44,10 +44,11 @@ pub fn ignores_bits(offset: u8, value: u8) -> bool
 }
 
 // The ports that a value of FPD3_PORT_SEL selects to be written.
+#[tactic(auto, unfolding(ports::specs::PortMasks::port_mask))]
 fn selected_ports(selection: u8) -> u8
     ensures { result ≡ port_mask (λ port. bit port selection) }
 {
-    ports::mask_of(|port| bits::is_set(selection, port))
+    ports::mask_of([0, 1, 2, 3].map(|port| bits::is_set(selection, port)))
 }
 
 // Whether the register of a port differs; there is none above port 3.
@@ -59,10 +60,11 @@ fn port_differs(before: RegisterFile, after: RegisterFile, port: u8, offset: u8)
 }
 
 // The ports whose register differs.
+#[tactic(auto, unfolding(ports::specs::PortMasks::port_mask))]
 fn differing_ports(before: RegisterFile, after: RegisterFile, offset: u8) -> u8
     ensures { result ≡ port_mask (λ port. differs before after (port_register port offset)) }
 {
-    ports::mask_of(|port| port_differs(before, after, port, offset))
+    ports::mask_of([0, 1, 2, 3].map(|port| port_differs(before, after, port, offset)))
 }
 
 // What a write to a per-port register does, of which some bit is writable.
