@@ -2,7 +2,7 @@
 // input and no output.
 #![tactic(auto)]
 
-ghost use Rattle.std.specs.Prelude.{◌≡◌, ◌≤◌, length, take, drop};
+ghost use Rattle.std.specs.Prelude.{◌≡◌, ◌≤◌, ◌-◌, length, take, drop};
 ghost use Rattle.laws.specs.Buffers.{written};
 ghost use Rattle.streams.specs.Streams.{new_window, wants_bytes, file_ended, after_read, nothing_left};
 
@@ -56,6 +56,18 @@ pub fn nothing_left(over: bool, last: bool, left: usize) -> bool
     over || (last && left == 0)
 }
 
+// Moves the bytes between two places to the start, and answers how many they are.
+#[tactic(auto, using(crate::proofs::Moves::moved_between))]
+fn move_down(buffer: &mut [u8], from: usize, to: usize) -> usize
+    requires from_le_to { from ≤ to }
+    requires to_in_bounds { to ≤ length buffer.old }
+    ensures { (result ≡ to - from)
+        × (buffer.new ≡ written buffer.old 0 (drop from (take to buffer.old))) }
+{
+    buffer.copy_within(from..to, 0);
+    to - from
+}
+
 // Moves what is left of the first `held` bytes, after the first `used` of them, to the start, and answers how many
 // they are.
 pub fn slide(buffer: &mut [u8], used: usize, held: usize) -> usize
@@ -64,6 +76,5 @@ pub fn slide(buffer: &mut [u8], used: usize, held: usize) -> usize
 {
     let to = held.min(buffer.len());
     let from = used.min(to);
-    buffer.copy_within(from..to, 0);
-    to - from
+    move_down(buffer, from, to)
 }
