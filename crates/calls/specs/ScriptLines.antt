@@ -72,6 +72,11 @@ abbrev pub calls_in : Answer Call → List RegisterWrite
 calls_in None = []
 calls_in (Some call) = write_of call ∷ []
 
+-- the calls of what was read: of a line of another shape there are none
+abbrev pub calls_in_read : Result (Answer Call) OtherShape → List RegisterWrite
+calls_in_read (Err other) = []
+calls_in_read (Ok call) = calls_in call
+
 -- the calls for each case of the answer, or that the line has another shape
 abbrev pub calls_of : Result (Answer Call) OtherShape → Option (List RegisterWrite)
 calls_of (Err other) = none

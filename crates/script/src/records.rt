@@ -1,14 +1,14 @@
 // The records of a script's trace, put into a buffer as far as they have room; the answer is the next free place.
 ghost use Rattle.std.specs.Prelude.{◌≡◌, [], ◌∷◌, ◌≤◌};
 ghost use Rattle.buffers.specs.Putting.{Puts};
-ghost use Rattle.calls.specs.ScriptLines.{write_of, calls_in};
+ghost use Rattle.calls.specs.ScriptLines.{write_of, calls_in_read};
 ghost use Rattle.trace.specs.Framing.{record_bytes};
 ghost use Rattle.trace.specs.Records.{hub_data};
 ghost use Rattle.script.specs.Traces.{write_records, hub_length};
 ghost use Rattle.script.specs.PrivateContracts.{PutsCalls, PutsTrace};
 
 use crate::text;
-use calls::Call;
+use calls::{Call, OtherShape};
 use registers::power_up::PowerUp;
 
 // The most bytes of a hub record, and the bytes of a write record of one value.
@@ -44,12 +44,13 @@ fn put_write(out: &mut [u8], at: usize, call: Call) -> usize
 }
 
 // The record of a line's call, where it has one.
-pub fn put_line(out: &mut [u8], at: usize, call: Option<Call>) -> usize
-    ensures { Puts out.old at (write_records (calls_in call)) out.new result }
+pub fn put_line(out: &mut [u8], at: usize, read: Result<Option<Call>, OtherShape>) -> usize
+    ensures { Puts out.old at (write_records (calls_in_read read)) out.new result }
 {
-    match call {
-        None => at,
-        Some(call) => put_write(out, at, call),
+    match read {
+        Ok(Some(call)) => put_write(out, at, call),
+        Ok(None) => at,
+        Err(_) => at,
     }
 }
 
@@ -65,7 +66,7 @@ fn put_calls(out: &mut [u8], at: usize, text: &[u8]) -> usize
             return next;
         };
         from += line.length + 1;
-        next = put_line(out, next, line.call);
+        next = put_line(out, next, Ok(line.call));
     }
     next
 }

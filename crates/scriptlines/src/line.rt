@@ -36,7 +36,7 @@ pub(crate) fn take_line(run: ScriptRun, left: &[u8], out: &mut [u8], at: usize) 
         },
         Ok(line) => {
             let used = line.length + 1;
-            let next = script::records::put_line(out, at, line.call);
+            let next = script::records::put_line(out, at, Ok(line.call));
             LinesTaken {
                 run: ScriptRun {
                     lines: run.lines.wrapping_add(1),
