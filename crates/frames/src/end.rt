@@ -11,7 +11,7 @@ use hub::{Hub, LastFrame, PortFrames};
 #[tactic(auto, unfolding(crate::specs::Events::event_reply, crate::specs::Events::if_open))]
 fn close(hub: Hub, port: u8, buf: &mut [u8], place: usize) -> Result<Taken, EventRefusal>
     ensures { EventAnswered hub (end_event port) buf.old place
-        (taken_reply result) (hub_with_taken hub result) buf.new }
+        (taken_reply result) (hub_with_taken hub port result) buf.new }
 {
     if 3 < port {
         return Err(EventRefusal::NoSuchPort);
@@ -32,7 +32,7 @@ fn close(hub: Hub, port: u8, buf: &mut [u8], place: usize) -> Result<Taken, Even
     };
     Ok(Taken {
         sent,
-        hub: hub::with_port_frames(hub, port, closed),
+        frames: closed,
     })
 }
 
@@ -41,5 +41,17 @@ pub fn end(hub: Hub, port: u8, buf: &mut [u8], place: usize) -> AfterEvent
     ensures { EventAnswered hub (end_event port) buf.old place
         (event_answer_reply result.answer) result.hub buf.new }
 {
-    crate::after_event(hub, close(hub, port, buf, place))
+    let taken = match close(hub, port, buf, place) {
+        Ok(taken) => taken,
+        Err(refusal) => {
+            return AfterEvent {
+                answer: Err(refusal),
+                hub,
+            };
+        }
+    };
+    AfterEvent {
+        answer: Ok(taken.sent),
+        hub: hub::with_port_frames(hub, port, taken.frames),
+    }
 }

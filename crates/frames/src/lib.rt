@@ -5,12 +5,11 @@
 ghost use Rattle.std.specs.Prelude.{◌≡◌};
 ghost use Rattle.frames.specs.declared.EventRefusal.TheVariants.{NoSuchPort, Pixels, NoRoom};
 ghost use Rattle.csi2.specs.Writers.{long_refusal_number};
-ghost use Rattle.frames.specs.Events.{event_refusal_number, event_answer_reply};
-ghost use Rattle.frames.specs.PrivateContracts.{taken_reply, hub_with_taken};
+ghost use Rattle.frames.specs.Events.{event_refusal_number};
 
 use csi2::long::LongRefusal;
 use csi2::short;
-use hub::{Hub, forwarding};
+use hub::{Hub, PortFrames, forwarding};
 use packing::check::PixelRefusal;
 use refusals::Refusal;
 
@@ -97,26 +96,9 @@ pub struct AfterEvent {
     pub hub: Hub,
 }
 
-// An event that was not refused: its packet, unless it was dropped, and the hub, which has moved on.
+// An event that was not refused: its packet, unless it was dropped, and what its port keeps of frames from now on.
 #[derive(Clone, Copy)]
 pub(crate) struct Taken {
     pub sent: Option<Sent>,
-    pub hub: Hub,
-}
-
-// What comes of an event on the hub: one that is refused leaves the hub as it was.
-fn after_event(hub: Hub, taken: Result<Taken, EventRefusal>) -> AfterEvent
-    ensures answer { event_answer_reply result.answer ≡ taken_reply taken }
-    ensures hub { result.hub ≡ hub_with_taken hub taken }
-{
-    match taken {
-        Ok(taken) => AfterEvent {
-            answer: Ok(taken.sent),
-            hub: taken.hub,
-        },
-        Err(refusal) => AfterEvent {
-            answer: Err(refusal),
-            hub,
-        },
-    }
+    pub frames: PortFrames,
 }

@@ -19,7 +19,7 @@ fn is_open(last: LastFrame) -> bool
 #[tactic(auto, unfolding(crate::specs::Events::event_reply, crate::specs::Events::if_open))]
 fn open(hub: Hub, port: u8, bits: u8, buf: &mut [u8], place: usize) -> Result<Taken, EventRefusal>
     ensures { EventAnswered hub (start_event port bits) buf.old place
-        (taken_reply result) (hub_with_taken hub result) buf.new }
+        (taken_reply result) (hub_with_taken hub port result) buf.new }
 {
     if 3 < port {
         return Err(EventRefusal::NoSuchPort);
@@ -44,14 +44,27 @@ fn open(hub: Hub, port: u8, bits: u8, buf: &mut [u8], place: usize) -> Result<Ta
     };
     Ok(Taken {
         sent,
-        hub: hub::with_port_frames(hub, port, opened),
+        frames: opened,
     })
 }
 
-// A frame start on a port, its format given as a number of bits; the packet is written from the place.
+// A frame start on a port, its format given as a number of bits; the packet is written from the place. (What comes of
+// it is no function of its own, for start and end: that would copy the hub once more, a tenth of the event's time.)
 pub fn start(hub: Hub, port: u8, bits: u8, buf: &mut [u8], place: usize) -> AfterEvent
     ensures { EventAnswered hub (start_event port bits) buf.old place
         (event_answer_reply result.answer) result.hub buf.new }
 {
-    crate::after_event(hub, open(hub, port, bits, buf, place))
+    let taken = match open(hub, port, bits, buf, place) {
+        Ok(taken) => taken,
+        Err(refusal) => {
+            return AfterEvent {
+                answer: Err(refusal),
+                hub,
+            };
+        }
+    };
+    AfterEvent {
+        answer: Ok(taken.sent),
+        hub: hub::with_port_frames(hub, port, taken.frames),
+    }
 }
