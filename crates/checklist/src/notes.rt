@@ -45,7 +45,7 @@ fn about(kind: Kind) -> Option<(&'static str, &'static str)> {
 pub fn named(pen: &mut Pen, kind: Kind, count: u64) -> io::Result<()> {
     write!(pen, "  ")?;
     if let Some((one, several)) = about(kind) {
-        words::counted(pen, count, one, several)?;
+        words::counted(pen, count, one.as_bytes(), several.as_bytes())?;
     }
     words::named(pen, kind)
 }

@@ -9,7 +9,8 @@ use std::fmt;
 use std::fmt::Display;
 use std::io::{Error, ErrorKind, Print, Write};
 
-const STDERR_FILENO: i32 = 2;
+// The descriptor of standard error.
+pub const STDERR_FILENO: i32 = 2;
 
 // Standard error, by its number: std's handle for it would travel through every function that may fail. What cannot be
 // said there is let go.
@@ -66,26 +67,34 @@ pub fn usage(words: &str) -> NotDone
     NotDone::Failed
 }
 
+// What failed, after the command.
+fn begin(command: Command, what: &[u8]) {
+    let _ = write!(Stderr, "loopcinder {command}: ");
+    let _ = Stderr.write_all(what);
+}
+
 // What failed, and why, as the system says it.
-pub fn failed(command: Command, what: &str, error: Error) -> NotDone
+pub fn failed(command: Command, what: &[u8], error: Error) -> NotDone
     ensures { result ≡ NotDone.Failed }
 {
-    words(command, format_args!("{what}: {}", Reason(error)));
+    begin(command, what);
+    let _ = writeln!(Stderr, ": {}", Reason(error));
     NotDone::Failed
 }
 
 // What failed with a file, and why, as the system says it.
-pub fn file_failed(command: Command, what: &str, path: &[u8], error: Error) -> NotDone
+pub fn file_failed(command: Command, what: &[u8], path: &[u8], error: Error) -> NotDone
     ensures { result ≡ NotDone.Failed }
 {
-    let _ = write!(Stderr, "loopcinder {command}: {what}: ");
+    begin(command, what);
+    let _ = Stderr.write_all(b": ");
     shown::name(path);
     let _ = writeln!(Stderr, ": {}", Reason(error));
     NotDone::Failed
 }
 
 // Standard output cannot be written: says what failed, and why; nothing where nobody reads it any more.
-pub fn unwritten(command: Command, what: &str, error: Error) -> NotDone {
+pub fn unwritten(command: Command, what: &[u8], error: Error) -> NotDone {
     if error.kind() == ErrorKind::BrokenPipe {
         return NotDone::Unread;
     }
@@ -96,7 +105,7 @@ pub fn unwritten(command: Command, what: &str, error: Error) -> NotDone {
 pub fn refusal<E: Refusal>(rt: &impl Print, command: Command, refusal: E) -> Result<(), NotDone> {
     println!(rt; "! {}", refusal.number()).map_err(|error| unwritten(
         command,
-        "cannot write the output",
+        b"cannot write the output",
         error,
     ))
 }
@@ -110,7 +119,7 @@ pub fn refusal_at<E: Refusal>(
 ) -> Result<(), NotDone> {
     println!(rt; "{line} ! {}", refusal.number()).map_err(|error| unwritten(
         command,
-        "cannot write the output",
+        b"cannot write the output",
         error,
     ))
 }

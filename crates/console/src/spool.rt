@@ -27,7 +27,7 @@ const OWNER_ONLY: u32 = 0o600;
 const PIECE: usize = 65536;
 
 fn say_unspooled(command: Command, error: Error) -> NotDone {
-    say::failed(command, "cannot write a temporary file in /tmp", error)
+    say::failed(command, b"cannot write a temporary file in /tmp", error)
 }
 
 // A name for the temporary file. (What is promised is its length, for it to be lent.)

@@ -50,7 +50,7 @@ impl Target<'_> {
             }
             _ => "cannot write the trace",
         };
-        say::file_failed(self.command, what, self.out, error)
+        say::file_failed(self.command, what.as_bytes(), self.out, error)
     }
 
     // Makes the part; says so where it cannot. A file that has the part's name already is not touched.

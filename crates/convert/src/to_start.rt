@@ -17,7 +17,7 @@ fn print(rt: &impl Print, command: Command, address: u8, start: PowerUp) -> Resu
     };
     println!(rt; "{address:02X} {start}").map_err(|error| say::unwritten(
         command,
-        "cannot write the output",
+        b"cannot write the output",
         error,
     ))
 }
@@ -69,7 +69,7 @@ pub(crate) fn run(
     let mut buffer = io::buffer();
     let path = arguments::word(rt, 2, &mut buffer).map_err(|error| say::failed(
         command,
-        "cannot open the trace",
+        b"cannot open the trace",
         error,
     ))?;
     let opened = input::open(rt, stdin, command, path)?;

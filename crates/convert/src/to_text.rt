@@ -82,7 +82,11 @@ fn convert(rt: &impl Print, from: Input<'_>, start: u64) -> Result<(), NotDone> 
         .go_to(start)
         .map_err(|error| input::say_unread(command, from.path, error))?;
     let printed = take_all(from, &mut buffer, &mut text, |piece| {
-        rt.write_all(piece).map_err(|error| say::unwritten(command, "cannot write the text", error))
+        rt.write_all(piece).map_err(|error| say::unwritten(
+            command,
+            b"cannot write the text",
+            error,
+        ))
     })?;
     check(rt, command, printed)
 }
@@ -96,7 +100,7 @@ pub(crate) fn run(
     let mut buffer = io::buffer();
     let path = arguments::word(rt, 2, &mut buffer).map_err(|error| say::failed(
         command,
-        "cannot open the trace",
+        b"cannot open the trace",
         error,
     ))?;
     let file = input::open(rt, stdin, command, path)?;

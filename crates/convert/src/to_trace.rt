@@ -149,17 +149,17 @@ pub(crate) fn run(
     let word = arguments::word_or_empty(rt, 3, &mut word);
     let path = arguments::word(rt, 4, &mut script).map_err(|error| say::failed(
         command,
-        "cannot open the script",
+        b"cannot open the script",
         error,
     ))?;
     let out = arguments::word(rt, 5, &mut out).map_err(|error| say::failed(
         command,
-        "cannot write the trace",
+        b"cannot write the trace",
         error,
     ))?;
     let part = arguments::word(rt, 6, &mut part).map_err(|error| say::failed(
         command,
-        "cannot write the trace",
+        b"cannot write the trace",
         error,
     ))?;
     let address = address_of(rt, command, word)?;

@@ -9,7 +9,7 @@ use std::io::{Stdout, Write};
 pub mod shown;
 
 // Where the page is written: standard output; and how many bytes stand on its line.
-#[derive(Drop)]
+#[derive(Clone, Copy)]
 pub struct Pen {
     pub out: Stdout,
     pub column: u64,

@@ -22,7 +22,7 @@ fn play(
     let mut buffer = io::buffer();
     let path = arguments::word(rt, 2, &mut buffer).map_err(|error| say::failed(
         command,
-        "cannot open the trace",
+        b"cannot open the trace",
         error,
     ))?;
     let opened = input::open(rt, stdin, command, path)?;

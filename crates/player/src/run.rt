@@ -19,7 +19,7 @@ const RECORD_MARK: u8 = 0x9A;
 
 // Writes the text, or says that it cannot be written.
 fn write_out(rt: &impl Print, command: Command, text: &[u8]) -> Result<(), NotDone> {
-    rt.write_all(text).map_err(|error| say::unwritten(command, "cannot write the output", error))
+    rt.write_all(text).map_err(|error| say::unwritten(command, b"cannot write the output", error))
 }
 
 // Puts the last line at the start of the text, whole, and answers its end.

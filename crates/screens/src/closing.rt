@@ -60,7 +60,7 @@ fn nothing_wrong(pen: &mut Pen, counts: WriteCounts) -> io::Result<()> {
 
 // How many things look wrong.
 fn things(pen: &mut Pen, wrong: u64) -> io::Result<()> {
-    words::counted(pen, wrong, " thing looks wrong.", " things look wrong.")
+    words::counted(pen, wrong, b" thing looks wrong.", b" things look wrong.")
 }
 
 // Whether something looks wrong, at the end of show's screen.

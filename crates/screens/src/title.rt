@@ -41,7 +41,7 @@ pub fn writes(pen: &mut Pen, counts: WriteCounts) -> io::Result<()> {
     if counts.writes == 0 {
         return writeln!(pen, "no register write: the hub is as it starts");
     }
-    words::counted(pen, counts.writes, " register write", " register writes")?;
+    words::counted(pen, counts.writes, b" register write", b" register writes")?;
     if counts.sets_nothing() {
         return writeln!(pen, ", and none sets up anything that this model follows");
     }

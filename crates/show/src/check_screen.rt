@@ -13,6 +13,7 @@ use clashes::addresses;
 use endstate::findings::Grade;
 use page::Pen;
 use screens::{closing, title};
+use std::io::Result as Written;
 use words::Source;
 use words::kinds::Kind;
 
@@ -26,7 +27,7 @@ struct NoPort<'a> {
 }
 
 impl Task for NoPort<'_> {
-    fn at_write(&mut self, found: &Found) -> Result<(), Stop> {
+    fn at_write(&mut self, found: &Found) -> Written<()> {
         if found.no_port {
             things::no_port(self.pen, self.count, self.before, self.file, found.write)?;
         }
@@ -43,7 +44,7 @@ struct OddAliases<'a> {
 }
 
 impl Task for OddAliases<'_> {
-    fn at_write(&mut self, found: &Found) -> Result<(), Stop> {
+    fn at_write(&mut self, found: &Found) -> Written<()> {
         if found.odd_alias {
             notes::odd_alias(self.pen, &mut self.count, self.source, found.write)?;
         }
@@ -58,7 +59,7 @@ struct SharedInBlocks {
 }
 
 impl Task for SharedInBlocks {
-    fn at_write(&mut self, found: &Found) -> Result<(), Stop> {
+    fn at_write(&mut self, found: &Found) -> Written<()> {
         self.count = self.count.wrapping_add(u64::from(found.shared_in_block));
         Ok(())
     }
@@ -141,8 +142,8 @@ fn notes_with(
     Ok(notes::no_address(pen, &facts.end)?)
 }
 
-fn all_notes(pen: &mut Pen, reading: &Reading<'_>, facts: &Facts) -> Result<(), Stop> {
-    let shared = count_shared(reading, facts.any_order)?;
+// The notes, if there are some.
+fn all_notes(pen: &mut Pen, reading: &Reading<'_>, facts: &Facts, shared: u64) -> Result<(), Stop> {
     let counts = facts.counts;
     let at_writes = [
         counts.twice,
@@ -158,11 +159,19 @@ fn all_notes(pen: &mut Pen, reading: &Reading<'_>, facts: &Facts) -> Result<(), 
     notes_with(pen, reading, facts, shared)
 }
 
-pub(crate) fn print(pen: &mut Pen, reading: &Reading<'_>, facts: &Facts) -> Result<(), Stop> {
+// What looks wrong, counted first, and what is shared as meant.
+fn all_things(pen: &mut Pen, reading: &Reading<'_>, facts: &Facts) -> Result<(), Stop> {
     title::file_on_hub(pen, reading.path, reading.hub.address, reading.hub.start)?;
     closing::count_of_things(pen, facts.write_counts(), facts.wrong)?;
     wrong(pen, reading, facts)?;
     let mut count = 0;
-    clash_list::clash_list(pen, &mut count, Grade::Meant, reading.file, &facts.end)?;
-    all_notes(pen, reading, facts)
+    Ok(clash_list::clash_list(pen, &mut count, Grade::Meant, reading.file, &facts.end)?)
+}
+
+// (The notes are counted whether or not what stands before them could be written.)
+pub(crate) fn print(pen: &mut Pen, reading: &Reading<'_>, facts: &Facts) -> Result<(), Stop> {
+    let told = all_things(pen, reading, facts);
+    let shared = count_shared(reading, facts.any_order)?;
+    told?;
+    all_notes(pen, reading, facts, shared)
 }

@@ -116,7 +116,7 @@ fn answer(
     let command = asked.command;
     let mut buffer = io::buffer();
     let word = arguments::word(rt, given.argument, &mut buffer);
-    let path = word.map_err(|error| say::failed(command, "cannot open the file", error))?;
+    let path = word.map_err(|error| say::failed(command, b"cannot open the file", error))?;
     let opened = input::open(rt, streams.stdin, command, path)?;
     let again = again::make(rt, command, opened, path)?;
     let file = File {

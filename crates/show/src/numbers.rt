@@ -55,7 +55,7 @@ impl<'a> Numbers<'a> {
 }
 
 impl Task for OfKind<'_> {
-    fn at_write(&mut self, found: &Found) -> Result<(), Stop> {
+    fn at_write(&mut self, found: &Found) -> Written<()> {
         if found.is_found(self.kind) {
             self.numbers.tell(found.write.number)?;
         }
@@ -74,7 +74,7 @@ impl OfBlocks<'_> {
 }
 
 impl Task for OfBlocks<'_> {
-    fn at_write(&mut self, found: &Found) -> Result<(), Stop> {
+    fn at_write(&mut self, found: &Found) -> Written<()> {
         if found.is_selection() {
             self.end_block()?;
             self.block = Block::begin(found);
@@ -84,8 +84,8 @@ impl Task for OfBlocks<'_> {
         Ok(())
     }
 
-    fn at_end(&mut self) -> Result<(), Stop> {
-        Ok(self.end_block()?)
+    fn at_end(&mut self) -> Written<()> {
+        self.end_block()
     }
 }
 

@@ -34,7 +34,7 @@ impl OfKind<'_> {
 }
 
 impl Task for OfKind<'_> {
-    fn at_write(&mut self, found: &Found) -> Result<(), Stop> {
+    fn at_write(&mut self, found: &Found) -> Written<()> {
         for port in 0..4 {
             let earlier = self.earlier(found, port);
             if earlier.is_some() {

@@ -1,7 +1,6 @@
 // The blocks that select a port again and replace something of it, told on the screen of check.
 use crate::block::Block;
 use crate::found::Found;
-use crate::stop::Stop;
 use crate::walk::Task;
 use checklist::things;
 use checklist::things::Replacement;
@@ -80,7 +79,7 @@ impl<'a> SelectedAgain<'a> {
 }
 
 impl Task for SelectedAgain<'_> {
-    fn at_write(&mut self, found: &Found) -> Result<(), Stop> {
+    fn at_write(&mut self, found: &Found) -> Written<()> {
         if found.is_selection() {
             self.end_block()?;
             self.block = Block::begin(found);
@@ -94,7 +93,7 @@ impl Task for SelectedAgain<'_> {
         Ok(())
     }
 
-    fn at_end(&mut self) -> Result<(), Stop> {
-        Ok(self.end_block()?)
+    fn at_end(&mut self) -> Written<()> {
+        self.end_block()
     }
 }

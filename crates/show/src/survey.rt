@@ -1,10 +1,10 @@
 // The first way through the writes: everything that is found at them is counted, and nothing is told.
 use crate::block::Block;
 use crate::found::Found;
-use crate::stop::Stop;
 use crate::walk::Task;
 use findings::by_effect;
 use screens::bus::LostAlias;
+use std::io::Result as Written;
 
 // How many blocks select a port again and replace something, how many do so and replace nothing, and how many writes
 // there are of the other kinds.
@@ -98,7 +98,7 @@ impl Survey {
 }
 
 impl Task for Survey {
-    fn at_write(&mut self, found: &Found) -> Result<(), Stop> {
+    fn at_write(&mut self, found: &Found) -> Written<()> {
         if found.is_selection() {
             self.end_block();
             self.block = Block::begin(found);
@@ -112,7 +112,7 @@ impl Task for Survey {
         Ok(())
     }
 
-    fn at_end(&mut self) -> Result<(), Stop> {
+    fn at_end(&mut self) -> Written<()> {
         self.end_block();
         Ok(())
     }

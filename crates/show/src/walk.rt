@@ -10,26 +10,29 @@ use console::status::NotDone;
 use findings::WritesSoFar;
 use origins::NumberedWrite;
 use registers::power_up;
+use std::io::{Error, Result as Written};
 
 // So many writes pass between two signs of life.
 const WRITES_OF_A_SIGN: u64 = 1048576;
 
 // What is done on a way through the writes: at each one, with what is found at it, and after the last one.
 pub(crate) trait Task {
-    fn at_write(&mut self, found: &Found) -> Result<(), Stop>;
+    fn at_write(&mut self, found: &Found) -> Written<()>;
 
-    fn at_end(&mut self) -> Result<(), Stop> {
+    fn at_end(&mut self) -> Written<()> {
         Ok(())
     }
 }
 
-// After some writes: where the file is read to, the hub, how many writes there were, and what is known after them.
+// After some writes: where the file is read to, the hub, how many writes there were, and what is known after them; and
+// why no more is told, once standard output could not be written. The file is gone through to its end all the same.
 #[derive(Clone, Copy)]
 pub(crate) struct Run {
     pub position: Position,
     pub hub: HubStart,
     pub writes: u64,
     pub known: WritesSoFar,
+    unwritten: Option<Error>,
 }
 
 // A sign of life for each million of writes.
@@ -48,6 +51,7 @@ impl Run {
             hub,
             writes: 0,
             known: findings::start(power_up::registers_at(hub.start)),
+            unwritten: None,
         }
     }
 
@@ -58,18 +62,14 @@ impl Run {
     }
 
     // One write more.
-    fn take_write<T: Task>(
-        &mut self,
-        reading: &Reading<'_>,
-        task: &mut T,
-        write: NumberedWrite,
-    ) -> Result<(), Stop> {
+    fn take_write<T: Task>(&mut self, reading: &Reading<'_>, task: &mut T, write: NumberedWrite) {
         say_alive(reading.command, self.writes);
-        let found = found::at(&self.known, self.hub.address, reading.whole, write);
-        task.at_write(&found)?;
+        if self.unwritten.is_none() {
+            let found = found::at(&self.known, self.hub.address, reading.whole, write);
+            self.unwritten = task.at_write(&found).err();
+        }
         self.known = findings::step(self.known, write);
         self.writes = self.writes.wrapping_add(1);
-        Ok(())
     }
 
     // The writes of one number, at successive offsets.
@@ -80,7 +80,7 @@ impl Run {
         number: u64,
         first: u8,
         values: &[u8],
-    ) -> Result<(), Stop> {
+    ) {
         let mut offset = first;
         for value in values {
             let write = NumberedWrite {
@@ -88,10 +88,9 @@ impl Run {
                 offset,
                 value: *value,
             };
-            self.take_write(reading, task, write)?;
+            self.take_write(reading, task, write);
             offset = offset.wrapping_add(1);
         }
-        Ok(())
     }
 
     // Reads on, and takes what came; whether nothing is left.
@@ -101,13 +100,13 @@ impl Run {
         task: &mut T,
         buffer: &mut [u8],
         values: &mut [u8],
-    ) -> Result<bool, Stop> {
+    ) -> Result<bool, NotDone> {
         let turn = source::turn(reading.input(), self.position, buffer, values)?;
         self.position = turn.position;
         match turn.next {
             None => {}
             Some(Next::Hub(hub)) => self.start_hub(hub),
-            Some(Next::Write(write)) => self.take_write(reading, task, write)?,
+            Some(Next::Write(write)) => self.take_write(reading, task, write),
             Some(
                 Next::Burst {
                     number,
@@ -116,10 +115,19 @@ impl Run {
                 },
             ) => {
                 let end = count.min(values.len());
-                self.take_burst(reading, task, number, offset, &values[..end])?;
+                self.take_burst(reading, task, number, offset, &values[..end]);
             }
         }
         Ok(turn.done)
+    }
+
+    // After the last write.
+    fn end<T: Task>(self, task: &mut T) -> Result<Run, Stop> {
+        if let Some(error) = self.unwritten {
+            return Err(error.into());
+        }
+        task.at_end()?;
+        Ok(self)
     }
 }
 
@@ -134,8 +142,7 @@ pub(crate) fn through<T: Task>(
     let mut run = Run::new(reading);
     for _ in 0..u64::MAX {
         if run.take_turn(reading, task, buffer, &mut values)? {
-            task.at_end()?;
-            return Ok(run);
+            return run.end(task);
         }
     }
     Err(Stop::Said(NotDone::Failed))

@@ -126,7 +126,7 @@ pub fn named(pen: &mut Pen, kind: Kind) -> io::Result<()> {
 }
 
 // A count with the words for one thing, or those for several.
-pub fn counted(pen: &mut Pen, count: u64, one: &str, several: &str) -> io::Result<()> {
-    let words = if count == 1 { one } else { several };
-    write!(pen, "{count}{words}")
+pub fn counted(pen: &mut Pen, count: u64, one: &[u8], several: &[u8]) -> io::Result<()> {
+    write!(pen, "{count}")?;
+    pen.write_all(if count == 1 { one } else { several })
 }
