@@ -8,6 +8,7 @@ mod print;
 mod register_cases;
 mod unpacking_cases;
 
+use print::Output;
 use std::io;
 
 fn run(rt: &impl Print) -> io::Result<()> {
@@ -17,10 +18,6 @@ fn run(rt: &impl Print) -> io::Result<()> {
     frame_cases::run(rt)
 }
 
-// (A line that cannot be written is not told: whoever runs the cases compares what they printed.)
 fn main(rt: HostRuntime) {
-    match run(&rt) {
-        Ok(()) => {}
-        Err(_) => {}
-    }
+    let _ = run(&Output(rt.stdout()));
 }

@@ -1,6 +1,30 @@
 // How bytes, counts and refusals are printed.
 use refusals::Refusal;
+use std::fmt::Display;
+use std::io::{Print, Stdout};
 use std::{fmt, io};
+
+// Standard output. A piece that cannot be written is not told, and the next one is tried: whoever runs the cases
+// compares what they printed.
+#[derive(Clone, Copy)]
+pub(crate) struct Output(pub Stdout);
+
+impl Print for Output {
+    fn print<D: Display + Drop>(&self, value: D) -> io::Result<()> {
+        let _ = self.0.print(value);
+        Ok(())
+    }
+
+    fn println<D: Display + Drop>(&self, value: D) -> io::Result<()> {
+        let _ = self.0.println(value);
+        Ok(())
+    }
+
+    fn write_all(&self, bytes: &[u8]) -> io::Result<()> {
+        let _ = self.0.write_all(bytes);
+        Ok(())
+    }
+}
 
 // Bytes as hexadecimal, run together.
 #[derive(Clone, Copy)]
