@@ -42,7 +42,7 @@ pub fn open(
     }
     match open_named(rt, path) {
         Ok(file) => Ok(Opened::File(file)),
-        Err(error) => Err(say::file_failed(command, b"cannot open", path, error)),
+        Err(error) => Err(say::file_failed(command, b"cannot open: ", path, error)),
     }
 }
 
@@ -51,7 +51,7 @@ pub fn say_unread(command: Command, path: &[u8], error: Error) -> NotDone {
     if path == b"-".as_slice() {
         return say::failed(command, b"cannot read standard input", error);
     }
-    say::file_failed(command, b"cannot read", path, error)
+    say::file_failed(command, b"cannot read: ", path, error)
 }
 
 // Reads bytes of the file into the buffer; says so where it cannot.

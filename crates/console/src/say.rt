@@ -87,7 +87,6 @@ pub fn file_failed(command: Command, what: &[u8], path: &[u8], error: Error) -> 
     ensures { result ≡ NotDone.Failed }
 {
     begin(command, what);
-    let _ = Stderr.write_all(b": ");
     shown::name(path);
     let _ = writeln!(Stderr, ": {}", Reason(error));
     NotDone::Failed

@@ -46,9 +46,9 @@ impl Target<'_> {
     fn say_unwritten(self, error: Error) -> NotDone {
         let what = match self.command {
             Command::Run => {
-                "cannot write a temporary file (make room, or set TMPDIR to another folder)"
+                "cannot write a temporary file (make room, or set TMPDIR to another folder): "
             }
-            _ => "cannot write the trace",
+            _ => "cannot write the trace: ",
         };
         say::file_failed(self.command, what.as_bytes(), self.out, error)
     }
