@@ -1,6 +1,7 @@
 -- The hub: its own address, its register file, and what each port keeps of frames.
 -- Assumes nothing.
 use Rattle.std.specs.Prelude.{◌≡◌, Bool, true, false, cond, ◌&&◌, List, ℕ, leb, length, get_or, set, replicate, Result}
+use Rattle.std.specs.Prelude.{Ok, Err}
 use Rattle.std.proofs.Math.Option.{Option, none, some}
 use Rattle.laws.specs.Reply.{Reply, refused, given, reply_by}
 use Rattle.formats.specs.declared.Format.{Format}
@@ -14,7 +15,7 @@ use Rattle.hub.specs.declared.LastFrame.{LastFrame}
 use Rattle.hub.specs.declared.LastFrame.TheVariants.{NoFrame, Closed, Open}
 use Rattle.hub.specs.declared.PortFrames.{PortFrames}
 use Rattle.hub.specs.declared.Hub.{Hub}
-use Rattle.hub.specs.declared.AddressOutOfRange.{AddressOutOfRange}
+use Rattle.hub.specs.declared.NotCreated.{NotCreated}
 use Rattle.hub.specs.Refusals.{address_out_of_range_number}
 
 -- What holds of every value of the type Hub: in a definition an array is a list, and this says how long.
@@ -65,8 +66,13 @@ abbrev pub creation_of : PowerUp → ℕ → Reply Hub
 creation_of start address = creation_with (power_up_file start) address
 
 -- the answer to creating a hub, with the paper's number of the refusal
-abbrev pub creation_reply : Result Hub AddressOutOfRange → Reply Hub
-creation_reply answer = reply_by address_out_of_range_number answer
+abbrev pub creation_reply : Result Hub NotCreated → Reply Hub
+creation_reply answer = reply_by (λ not_created. address_out_of_range_number not_created.refusal) answer
+
+-- the hub that was asked for, whether or not it was created
+abbrev pub hub_asked : Result Hub NotCreated → Hub
+hub_asked (Ok hub) = hub
+hub_asked (Err not_created) = not_created.hub
 
 -- the hub with other registers
 abbrev pub with_registers : Hub → RegisterFile → Hub

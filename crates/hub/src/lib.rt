@@ -2,7 +2,8 @@
 #![tactic(auto)]
 
 ghost use Rattle.std.specs.Prelude.{◌≡◌};
-ghost use Rattle.hub.specs.Hubs.{ArrayLengths, is_hub_address, hub_with, creation_reply, creation_of};
+ghost use Rattle.hub.specs.Hubs.{ArrayLengths, is_hub_address, hub_with, hub_at, creation_reply, creation_of};
+ghost use Rattle.hub.specs.Hubs.{hub_asked};
 ghost use Rattle.hub.specs.Refusals.{address_out_of_range_number};
 ghost use Rattle.hub.specs.Hubs.{hub_burst, hub_read, port_frames, with_port_frames};
 
@@ -47,6 +48,13 @@ impl Refusal for AddressOutOfRange {
     }
 }
 
+// A hub is refused: why, and the hub that was asked for, which is none to use on a bus.
+#[derive(Clone, Copy)]
+pub struct NotCreated {
+    pub refusal: AddressOutOfRange,
+    pub hub: Hub,
+}
+
 // Whether the address may be a hub's own.
 #[tactic(auto, unfolding(crate::specs::Hubs::is_hub_address))]
 pub fn is_hub_address(address: u8) -> bool
@@ -73,13 +81,17 @@ pub fn hub_with(address: u8, registers: RegisterFile) -> Hub
 
 // A hub with an own address, as it starts.
 #[tactic(auto, unfolding(crate::specs::Hubs::creation_with))]
-pub fn new(address: u8, start: PowerUp) -> Result<Hub, AddressOutOfRange>
-    ensures { creation_reply result ≡ creation_of start address }
+pub fn new(address: u8, start: PowerUp) -> Result<Hub, NotCreated>
+    ensures { (creation_reply result ≡ creation_of start address) × (hub_asked result ≡ hub_at start address) }
 {
+    let hub = hub_with(address, power_up::registers_at(start));
     if !is_hub_address(address) {
-        return Err(AddressOutOfRange);
+        return Err(NotCreated {
+            refusal: AddressOutOfRange,
+            hub,
+        });
     }
-    Ok(hub_with(address, power_up::registers_at(start)))
+    Ok(hub)
 }
 
 // The hub as it is. What is promised beside it holds of every value of the type: the arrays have their lengths.

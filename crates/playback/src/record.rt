@@ -33,11 +33,11 @@ fn play_hub(hub: Hub, address: u8, start: PowerUp) -> RecordPlayed
             },
             ends: false,
         },
-        Err(refusal) => RecordPlayed {
+        Err(not_created) => RecordPlayed {
             hub,
             answer: RecordAnswer::Hub {
                 address,
-                answer: Err(refusal),
+                answer: Err(not_created.refusal),
             },
             ends: true,
         },
