@@ -44,6 +44,7 @@ fn put_write(out: &mut [u8], at: usize, call: Call) -> usize
 }
 
 // The record of a line's call, where it has one.
+#[tactic(auto, using(buffers::proofs::PutLaws::put_nothing), unfolding(crate::specs::Traces::write_records))]
 pub fn put_line(out: &mut [u8], at: usize, read: Result<Option<Call>, OtherShape>) -> usize
     ensures { Puts out.old at (write_records (calls_in_read read)) out.new result }
 {
