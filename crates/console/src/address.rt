@@ -22,25 +22,37 @@ pub fn of_word(word: &[u8]) -> Option<u8> {
 pub fn say_form(command: Command) -> NotDone {
     say::words(
         command,
-        "give the hub's address as two hex digits, as in 3D or 0x3D",
+        b"give the hub's address as two hex digits, as in 3D or 0x3D\n",
     );
     NotDone::Failed
 }
 
-// Says that no hub has the address; of one with 8 bits, as data sheets print them, what its 7 bits are.
-pub fn refuse<E: Refusal>(rt: &impl Print, command: Command, address: u8, refusal: E) -> NotDone {
-    if let Err(unwritten) = say::refusal(rt, command, refusal) {
-        return unwritten;
-    }
+// Says what range an address has; of one with 8 bits, as data sheets print them, what its 7 bits are.
+fn say_range(command: Command, address: u8) {
     let range = "the hub's address has 7 bits and lies in 08 to 77";
     if 0x77 < address {
         let seven = address / 2;
-        say::words(
+        say::formatted(
             command,
-            format_args!("{range}; of {address:02X} in 8 bits they are {seven:02X}"),
+            format_args!("{range}; of {address:02X} in 8 bits they are {seven:02X}\n"),
         );
     } else {
-        say::words(command, range);
+        say::formatted(command, format_args!("{range}\n"));
     }
-    NotDone::Refused
+}
+
+// Says that no hub has the address, under the refusal's number.
+pub fn refuse(rt: &impl Print, command: Command, address: u8, number: u8) -> NotDone {
+    match say::refusal(rt, number.into()) {
+        Ok(()) => {
+            say_range(command, address);
+            NotDone::Refused
+        }
+        Err(error) => say::output_unwritten(command, error),
+    }
+}
+
+// The same, of a refusal that has a number.
+pub fn refused<E: Refusal>(rt: &impl Print, command: Command, address: u8, refused: E) -> NotDone {
+    refuse(rt, command, address, refused.number())
 }

@@ -54,30 +54,30 @@ impl Display for Command {
     }
 }
 
-// A line of words after the command.
-pub fn words<D: Display + Drop>(command: Command, words: D) {
-    let _ = writeln!(Stderr, "loopcinder {command}: {words}");
+// Words after the command; a line is not ended.
+pub fn words(command: Command, text: &[u8]) {
+    let _ = write!(Stderr, "loopcinder {command}: ");
+    let _ = Stderr.write_all(text);
 }
 
-// A line that says how the program is run.
-pub fn usage(words: &str) -> NotDone
+// The same of words that are put together.
+pub fn formatted<D: Display + Drop>(command: Command, words: D) {
+    let _ = write!(Stderr, "loopcinder {command}: {words}");
+}
+
+// A line that says how the program is run, with its end.
+pub fn usage(line: &str) -> NotDone
     ensures { result ≡ NotDone.Failed }
 {
-    let _ = writeln!(Stderr, "{words}");
+    let _ = Stderr.write_all(line.as_bytes());
     NotDone::Failed
-}
-
-// What failed, after the command.
-fn begin(command: Command, what: &[u8]) {
-    let _ = write!(Stderr, "loopcinder {command}: ");
-    let _ = Stderr.write_all(what);
 }
 
 // What failed, and why, as the system says it.
 pub fn failed(command: Command, what: &[u8], error: Error) -> NotDone
     ensures { result ≡ NotDone.Failed }
 {
-    begin(command, what);
+    words(command, what);
     let _ = writeln!(Stderr, ": {}", Reason(error));
     NotDone::Failed
 }
@@ -86,7 +86,7 @@ pub fn failed(command: Command, what: &[u8], error: Error) -> NotDone
 pub fn file_failed(command: Command, what: &[u8], path: &[u8], error: Error) -> NotDone
     ensures { result ≡ NotDone.Failed }
 {
-    begin(command, what);
+    words(command, what);
     shown::name(path);
     let _ = writeln!(Stderr, ": {}", Reason(error));
     NotDone::Failed
@@ -101,24 +101,35 @@ pub fn unwritten(command: Command, what: &[u8], error: Error) -> NotDone {
 }
 
 // Prints a refusal's number.
-pub fn refusal<E: Refusal>(rt: &impl Print, command: Command, refusal: E) -> Result<(), NotDone> {
-    println!(rt; "! {}", refusal.number()).map_err(|error| unwritten(
-        command,
-        b"cannot write the output",
-        error,
-    ))
+pub fn refusal(rt: &impl Print, number: u64) -> std::io::Result<()> {
+    rt.write_all(b"! ")?;
+    rt.print(number)?;
+    rt.write_all(b"\n")
 }
 
 // Prints a refusal's number after that of its line.
-pub fn refusal_at<E: Refusal>(
+pub fn refusal_at(rt: &impl Print, line: u64, number: u64) -> std::io::Result<()> {
+    rt.print(line)?;
+    rt.write_all(b" ")?;
+    refusal(rt, number)
+}
+
+// Standard output takes no more of an answer: says so.
+pub(crate) fn output_unwritten(command: Command, error: Error) -> NotDone {
+    unwritten(command, b"cannot write the output", error)
+}
+
+// Prints the number of what is refused; says so where it cannot.
+pub fn refused<E: Refusal>(rt: &impl Print, command: Command, refused: E) -> Result<(), NotDone> {
+    refusal(rt, refused.number().into()).map_err(|error| output_unwritten(command, error))
+}
+
+// Prints the number of what is refused after that of its line; says so where it cannot.
+pub fn refused_at<E: Refusal>(
     rt: &impl Print,
     command: Command,
     line: u64,
-    refusal: E,
+    refused: E,
 ) -> Result<(), NotDone> {
-    println!(rt; "{line} ! {}", refusal.number()).map_err(|error| unwritten(
-        command,
-        b"cannot write the output",
-        error,
-    ))
+    refusal_at(rt, line, refused.number().into()).map_err(|error| output_unwritten(command, error))
 }

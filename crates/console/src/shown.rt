@@ -1,5 +1,6 @@
 // Bytes of files and their names as they are shown on standard error: what would not be seen, by its number.
 use crate::say::Stderr;
+use buffers::text::lowercase_digit;
 use std::fmt;
 use std::fmt::Display;
 use std::io::Write;
@@ -7,6 +8,16 @@ use std::io::Write;
 // Whether a byte is a letter, a digit or another sign of ASCII.
 fn is_sign(byte: u8) -> bool {
     matches!(byte, b' '..=b'~')
+}
+
+// A byte by its number, in one piece.
+fn number(byte: u8) -> [u8; 4] {
+    [
+        b'\\',
+        b'x',
+        lowercase_digit(byte / 16),
+        lowercase_digit(byte),
+    ]
 }
 
 // Text of which every byte matters: all but ASCII by its number.
@@ -19,7 +30,7 @@ impl Display for Text<'_> {
             if is_sign(byte) {
                 write!(f, "{}", byte as char)?;
             } else {
-                write!(f, "\\x{byte:02x}")?;
+                f.write_str(std::str::from_utf8(&number(byte)).unwrap_or(""))?;
             }
         }
         Ok(())
@@ -39,7 +50,7 @@ pub fn name(bytes: &[u8]) {
     let mut before = 0;
     for &byte in bytes {
         if is_control(before, byte) {
-            let _ = write!(Stderr, "\\x{byte:02x}");
+            let _ = Stderr.write_all(&number(byte));
         } else {
             let _ = Stderr.write_all(&[byte]);
         }

@@ -29,7 +29,7 @@ fn start_of(word: &[u8]) -> Option<PowerUp> {
 // Says how the program is run.
 fn say_use() -> NotDone {
     say::usage(
-        "convert: ./loopcinder runs this program, as: convert trace board|sheet ADDRESS SCRIPT OUT PART, or: convert text TRACE, or: convert start TRACE",
+        "convert: ./loopcinder runs this program, as: convert trace board|sheet ADDRESS SCRIPT OUT PART, or: convert text TRACE, or: convert start TRACE\n",
     )
 }
 

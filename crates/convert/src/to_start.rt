@@ -10,12 +10,17 @@ use std::rt::{Env, Files};
 use tracewrites::{NextRecord, TraceRefusal};
 
 // The one line.
+fn line(rt: &impl Print, address: u8, start: PowerUp) -> std::io::Result<()> {
+    print!(rt; "{address:02X}")?;
+    rt.write_all(match start {
+        PowerUp::Boot => b" board\n",
+        PowerUp::Reset => b" sheet\n",
+    })
+}
+
+// Prints it; says so where it cannot.
 fn print(rt: &impl Print, command: Command, address: u8, start: PowerUp) -> Result<(), NotDone> {
-    let start = match start {
-        PowerUp::Boot => "board",
-        PowerUp::Reset => "sheet",
-    };
-    println!(rt; "{address:02X} {start}").map_err(|error| say::unwritten(
+    line(rt, address, start).map_err(|error| say::unwritten(
         command,
         b"cannot write the output",
         error,
@@ -24,15 +29,15 @@ fn print(rt: &impl Print, command: Command, address: u8, start: PowerUp) -> Resu
 
 // The trace has no start: says so, and why.
 fn refuse(rt: &impl Print, command: Command, refusal: TraceRefusal) -> Result<(), NotDone> {
-    say::refusal(rt, command, refusal)?;
+    say::refused(rt, command, refusal)?;
     say::words(
         command,
         match refusal {
             TraceRefusal::AddressOutOfRange => {
-                "the hub's address in record 1 has to lie in 08 to 77"
+                b"the hub's address in record 1 has to lie in 08 to 77\n".as_slice()
             }
             TraceRefusal::MalformedRecord | TraceRefusal::EmptyTrace => {
-                "record 1 is missing, cut short, or not one that a trace has there; is this file a trace?"
+                b"record 1 is missing, cut short, or not one that a trace has there; is this file a trace?\n"
             }
         },
     );

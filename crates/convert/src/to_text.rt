@@ -42,20 +42,20 @@ fn take_all<F: FnMut(&[u8]) -> Result<(), NotDone>>(
 // Says in words why the trace has no text.
 fn say_why(command: Command, refusal: TextRefusal, record: u64) {
     match refusal {
-        TextRefusal::NoRecord => say::words(
+        TextRefusal::NoRecord => say::formatted(
             command,
             format_args!(
-                "record {record} is missing, cut short, or not one that a trace has there; is this file a trace?"
+                "record {record} is missing, cut short, or not one that a trace has there; is this file a trace?\n"
             ),
         ),
         TextRefusal::AddressOutOfRange => say::words(
             command,
-            "the hub's address in record 1 has to lie in 08 to 77",
+            b"the hub's address in record 1 has to lie in 08 to 77\n",
         ),
-        TextRefusal::NoTextForm => say::words(
+        TextRefusal::NoTextForm => say::formatted(
             command,
             format_args!(
-                "record {record} is no register write: only the hub's address and register writes have a text"
+                "record {record} is no register write: only the hub's address and register writes have a text\n"
             ),
         ),
     }
@@ -66,7 +66,7 @@ fn check(rt: &impl Print, command: Command, run: TextRun) -> Result<(), NotDone>
     let Some(refusal) = tracetext::end_refusal(run) else {
         return Ok(());
     };
-    say::refusal(rt, command, refusal)?;
+    say::refused(rt, command, refusal)?;
     say_why(command, refusal, tracetext::refused_record(run));
     Err(NotDone::Refused)
 }

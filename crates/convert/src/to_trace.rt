@@ -77,7 +77,7 @@ fn refuse(
     lent: &mut [u8],
 ) -> Result<(), NotDone> {
     let line = scriptlines::refused_line(file.run);
-    say::refusal_at(rt, from.command, line, refusal)?;
+    say::refused_at(rt, from.command, line, refusal)?;
     refusedlines::name_all(from, file, buffer, lent);
     Err(NotDone::Refused)
 }
@@ -91,7 +91,7 @@ fn keep(
 ) -> Result<(), NotDone> {
     let kept = target.keep(rt, part);
     if !has_call {
-        say::words(target.command, "note: the script has no register write");
+        say::words(target.command, b"note: the script has no register write\n");
     }
     kept
 }
@@ -130,7 +130,7 @@ fn address_of(rt: &impl Print, command: Command, word: &[u8]) -> Result<u8, NotD
     let Some(address) = address::of_word(word) else {
         return Err(address::say_form(command));
     };
-    scriptlines::check_address(address).map_err(|refusal| address::refuse(
+    scriptlines::check_address(address).map_err(|refusal| address::refused(
         rt, command, address, refusal,
     ))?;
     Ok(address)

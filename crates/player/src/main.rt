@@ -43,7 +43,7 @@ fn play_as(
     match (arguments::count(rt), word) {
         (3, b"play") => play(rt, stdin, Command::Play),
         (3, b"run") => play(rt, stdin, Command::Run),
-        _ => Err(say::usage("player: ./loopcinder runs this program, as: player play FILE")),
+        _ => Err(say::usage("player: ./loopcinder runs this program, as: player play FILE\n")),
     }
 }
 

@@ -79,15 +79,15 @@ fn say_ended(command: Command, session: Session, first: u8) {
     if session.records == 1 && first != RECORD_MARK {
         say::words(
             command,
-            "this file is no trace; a script is run with: ./loopcinder run ADDRESS SCRIPT",
+            b"this file is no trace; a script is run with: ./loopcinder run ADDRESS SCRIPT\n",
         );
         return;
     }
     let record = session.records;
-    say::words(
+    say::formatted(
         command,
         format_args!(
-            "the run ended at record {record}: it is cut short, not one that a trace has there, or gives an address that no hub has"
+            "the run ended at record {record}: it is cut short, not one that a trace has there, or gives an address that no hub has\n"
         ),
     );
 }
@@ -99,7 +99,7 @@ fn ending(command: Command, session: Session, first: u8) -> Result<(), NotDone> 
         return Err(NotDone::Refused);
     }
     if session.records == 0 {
-        say::words(command, "note: the trace is empty");
+        say::words(command, b"note: the trace is empty\n");
     }
     Ok(())
 }

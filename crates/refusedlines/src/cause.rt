@@ -128,28 +128,30 @@ pub(crate) fn cause_of(line: &[u8], ended: bool) -> Cause {
     cause_in_call(call)
 }
 
-// Words for a cause, between the line's number and the line.
+// Words for a cause, between the line's number and the line, with what parts them.
 impl Display for Cause {
     fn fmt<W: fmt::Write>(&self, f: &mut fmt::Formatter<W>) -> fmt::Result {
         f.write_str(match self {
-            Cause::NotTold => "is neither blank nor one call such as WriteI2C(0x4c,0x0f)",
-            Cause::NoText => "is no text; save the script as plain text, in UTF-8 or ASCII",
+            Cause::NotTold => " is neither blank nor one call such as WriteI2C(0x4c,0x0f): ",
+            Cause::NoText => " is no text; save the script as plain text, in UTF-8 or ASCII: ",
             Cause::Trace =>
-                "begins as a trace does; show and play take a trace, without an address",
-            Cause::NoLineFeed => "has no line feed at its end; press Enter after it",
-            Cause::ByteOrderMark => "begins with a byte order mark; save the script without one",
-            Cause::CarriageReturn => "has a carriage return; save the script with Unix line ends",
-            Cause::MailQuotation => "has > as a mail quotes it; take that away",
-            Cause::NoBreakSpace => "has a space that does not break; type a plain one",
-            Cause::Slashes => "has //; a comment begins with #",
-            Cause::WebPage => "has & or < of a web page; type a call such as WriteI2C(0x4c,0x0f)",
-            Cause::Semicolon => "has a semicolon; type a call such as WriteI2C(0x4c,0x0f)",
-            Cause::CapitalX => "has 0X; type 0x",
-            Cause::OtherCase => "has the word in other capitals; type WriteI2C",
-            Cause::ManyCalls => "has more than one call; give each a line of its own",
+                " begins as a trace does; show and play take a trace, without an address: ",
+            Cause::NoLineFeed => " has no line feed at its end; press Enter after it: ",
+            Cause::ByteOrderMark => " begins with a byte order mark; save the script without one: ",
+            Cause::CarriageReturn =>
+                " has a carriage return; save the script with Unix line ends: ",
+            Cause::MailQuotation => " has > as a mail quotes it; take that away: ",
+            Cause::NoBreakSpace => " has a space that does not break; type a plain one: ",
+            Cause::Slashes => " has //; a comment begins with #: ",
+            Cause::WebPage =>
+                " has & or < of a web page; type a call such as WriteI2C(0x4c,0x0f): ",
+            Cause::Semicolon => " has a semicolon; type a call such as WriteI2C(0x4c,0x0f): ",
+            Cause::CapitalX => " has 0X; type 0x: ",
+            Cause::OtherCase => " has the word in other capitals; type WriteI2C: ",
+            Cause::ManyCalls => " has more than one call; give each a line of its own: ",
             Cause::ManyValues =>
-                "has more than an offset and one value; type a call for each value",
-            Cause::BareValue => "has a value without 0x; values are hex, as in 0x4c",
+                " has more than an offset and one value; type a call for each value: ",
+            Cause::BareValue => " has a value without 0x; values are hex, as in 0x4c: ",
         })
     }
 }

@@ -29,9 +29,9 @@ fn line_end(text: &[u8]) -> Option<usize>
 // A line that is too long, of which the first bytes are given, in words.
 fn name_long(command: Command, first: &[u8], number: u64) {
     let shown = Text(first);
-    say::words(
+    say::formatted(
         command,
-        format_args!("line {number} has more than {LONGEST_LINE} bytes: {shown}..."),
+        format_args!("line {number} has more than 200 bytes: {shown}...\n"),
     );
 }
 
@@ -39,7 +39,7 @@ fn name_long(command: Command, first: &[u8], number: u64) {
 fn name_shape(command: Command, line: &[u8], ended: bool, number: u64) {
     let cause = cause::cause_of(line, ended);
     let shown = Text(line);
-    say::words(command, format_args!("line {number} {cause}: {shown}"));
+    say::formatted(command, format_args!("line {number}{cause}{shown}\n"));
 }
 
 fn name_line(command: Command, line: &[u8], ended: bool, number: u64) {
@@ -118,7 +118,10 @@ fn next_refused(
 fn say_more(command: Command, count: u64) {
     if MOST_NAMED < count {
         let more = count - MOST_NAMED;
-        say::words(command, format_args!("refused lines besides these: {more}"));
+        say::formatted(
+            command,
+            format_args!("refused lines besides these: {more}\n"),
+        );
     }
 }
 

@@ -148,7 +148,7 @@ fn typed_hub(rt: &impl Env, out: &Stdout, asked: Asked) -> Result<HubStart, NotD
     };
     match scriptlines::check_address(address) {
         Ok(()) => Ok(HubStart { address, start }),
-        Err(refusal) => { Err(asked.not_taken(address::refuse(out, command, address, refusal))) }
+        Err(refusal) => { Err(asked.not_taken(address::refused(out, command, address, refusal))) }
     }
 }
 
@@ -175,7 +175,7 @@ fn typed(rt: &impl Env, out: &Stdout, asked: Asked, words: usize) -> Result<Give
 // Says how the program is run.
 fn say_use() -> NotDone {
     say::usage(
-        "show: ./loopcinder runs this program, as: show show board|sheet ADDRESS SCRIPT, or: show show TRACE",
+        "show: ./loopcinder runs this program, as: show show board|sheet ADDRESS SCRIPT, or: show show TRACE\n",
     )
 }
 

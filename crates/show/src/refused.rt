@@ -11,18 +11,18 @@ use tracewrites::{TraceFile, TraceRefusal};
 // Why the trace is not taken, with the number of the record. A file that does not begin as a trace may be a script.
 fn say_why(command: Command, refusal: TraceRefusal, record: Option<u64>, first: u8) {
     match (refusal, record) {
-        (TraceRefusal::EmptyTrace, _) => say::words(command, "the trace is empty"),
+        (TraceRefusal::EmptyTrace, _) => say::words(command, b"the trace is empty\n"),
         (TraceRefusal::AddressOutOfRange, _) => say::words(
             command,
-            "the hub's address in record 1 has to lie in 08 to 77",
+            b"the hub's address in record 1 has to lie in 08 to 77\n",
         ),
         (TraceRefusal::MalformedRecord, Some(1)) if first != 0x9A => say::words(
             command,
-            "this file is no trace; a script needs the hub's address before it, as in 3D",
+            b"this file is no trace; a script needs the hub's address before it, as in 3D\n",
         ),
-        (TraceRefusal::MalformedRecord, Some(record)) => say::words(
+        (TraceRefusal::MalformedRecord, Some(record)) => say::formatted(
             command,
-            format_args!("record {record} is cut short, or not one that a trace has there"),
+            format_args!("record {record} is cut short, or not one that a trace has there\n"),
         ),
         // tracewrites gives that refusal a record always.
         (TraceRefusal::MalformedRecord, None) => {}
@@ -36,8 +36,8 @@ fn trace(rt: &impl Print, command: Command, file: TraceFile, buffer: &[u8]) -> R
     };
     let record = tracewrites::refused_record(file);
     match record {
-        None => say::refusal(rt, command, refusal)?,
-        Some(record) => say::refusal_at(rt, command, record, refusal)?,
+        None => say::refused(rt, command, refusal)?,
+        Some(record) => say::refused_at(rt, command, record, refusal)?,
     }
     say_why(command, refusal, record, buffers::byte_at(buffer, 0));
     Err(NotDone::Refused)
@@ -54,7 +54,7 @@ fn script(
         return Ok(());
     };
     let line = scriptlines::refused_line(file.run);
-    say::refusal_at(rt, reading.command, line, refusal)?;
+    say::refused_at(rt, reading.command, line, refusal)?;
     let mut records = io::buffer();
     refusedlines::name_all(reading.input(), file, buffer, &mut records);
     Err(NotDone::Refused)

@@ -38,7 +38,7 @@ pub(crate) struct Run {
 // A sign of life for each million of writes.
 fn say_alive(command: Command, writes: u64) {
     if writes % WRITES_OF_A_SIGN == WRITES_OF_A_SIGN - 1 {
-        say::words(command, "still at work");
+        say::words(command, b"still at work\n");
     }
 }
 
