@@ -2,7 +2,7 @@
 ghost use Rattle.std.specs.Prelude.{◌≤◌};
 
 use crate::print;
-use crate::print::Bytes;
+use crate::print::{Byte, Bytes};
 use csi2::long;
 use formats::Format;
 use reader::{Packet, PacketRefusal};
@@ -20,19 +20,20 @@ const SECOND_VECTOR: [u8; 24] = [
 ];
 
 fn print_check_byte(rt: &impl Print, word: u32) -> io::Result<()> {
-    println!(rt;
-        "check byte of the header word {word}: {:02X}",
-        ecc::check_byte(word)
-    )
+    print!(rt; "check byte of the header word")?;
+    println!(rt; " {word}: {}", Byte(ecc::check_byte(word)))
 }
 
 fn print_packet(rt: &impl Print, answer: Result<Packet, PacketRefusal>) -> io::Result<()> {
     match answer {
         Ok(packet) => {
-            print!(rt; " {:02X} {}", packet.data_identifier, packet.word_count)?;
+            print!(rt; " {} {}", Byte(packet.data_identifier), packet.word_count)?;
             match packet.corrected {
                 None => print!(rt; " nothing corrected"),
-                Some(bit) => print!(rt; " corrected bit {bit}"),
+                Some(bit) => {
+                    print!(rt; " corrected bit")?;
+                    print!(rt; " {bit}")
+                }
             }
         }
         Err(refusal) => print::refusal(rt, refusal),
@@ -50,7 +51,7 @@ fn print_packed(rt: &impl Print, name: &str, format: Format, pixels: &[u16]) -> 
     print!(rt; "{name}")?;
     let mut buf = [0u8; 8];
     let answer = packing::pack_pixels(format, pixels, &mut buf, 0);
-    print::count(rt, answer, "bytes")?;
+    print::count(rt, answer, " bytes")?;
     if answer.is_ok() {
         print!(rt; ", with the rest of 8: {}", Bytes(&buf))?;
     }
@@ -58,10 +59,8 @@ fn print_packed(rt: &impl Print, name: &str, format: Format, pixels: &[u16]) -> 
 }
 
 fn print_checksum(rt: &impl Print, bytes: &[u8]) -> io::Result<()> {
-    println!(rt;
-        "checksum of the standard's vector: {:04X}",
-        crc::checksum(bytes)
-    )
+    let sum = crc::checksum(bytes).to_be_bytes();
+    println!(rt; "checksum of the standard's vector: {}", Bytes(&sum))
 }
 
 fn print_line(
@@ -74,7 +73,7 @@ fn print_line(
     print!(rt; "{name}")?;
     let mut buf = [0u8; 6150];
     let answer = long::write_pixel_line(format, pixels, identifier, &mut buf, 0);
-    print::count(rt, answer, "bytes")?;
+    print::count(rt, answer, " bytes")?;
     println!(rt; "")
 }
 

@@ -1,28 +1,49 @@
 // How bytes, counts and refusals are printed.
 use refusals::Refusal;
 use std::fmt::Display;
-use std::io::{Print, Stdout};
+use std::io::{Print, Stdout, Write};
 use std::{fmt, io};
 
-// Standard output. A piece that cannot be written is not told, and the next one is tried: whoever runs the cases
-// compares what they printed.
+// Standard output, piece by piece. One that cannot be written is not told, and the next one is tried: whoever runs the
+// cases compares what they printed.
 #[derive(Clone, Copy)]
 pub(crate) struct Output(pub Stdout);
 
+impl Write for Output {
+    fn write(&mut self, bytes: &[u8]) -> io::Result<usize> {
+        let _ = Print::write_all(&self.0, bytes);
+        Ok(bytes.len())
+    }
+
+    fn flush(&mut self) -> io::Result<()> {
+        Ok(())
+    }
+}
+
 impl Print for Output {
     fn print<D: Display + Drop>(&self, value: D) -> io::Result<()> {
-        let _ = self.0.print(value);
-        Ok(())
+        let mut pieces = *self;
+        write!(pieces, "{value}")
     }
 
     fn println<D: Display + Drop>(&self, value: D) -> io::Result<()> {
-        let _ = self.0.println(value);
-        Ok(())
+        let mut pieces = *self;
+        writeln!(pieces, "{value}")
     }
 
     fn write_all(&self, bytes: &[u8]) -> io::Result<()> {
-        let _ = self.0.write_all(bytes);
-        Ok(())
+        let mut pieces = *self;
+        Write::write_all(&mut pieces, bytes)
+    }
+}
+
+// A byte as two digits of hexadecimal, each a piece.
+#[derive(Clone, Copy)]
+pub(crate) struct Byte(pub u8);
+
+impl fmt::Display for Byte {
+    fn fmt<W: fmt::Write>(&self, f: &mut fmt::Formatter<W>) -> fmt::Result {
+        write!(f, "{:X}{:X}", self.0 / 16, self.0 % 16)
     }
 }
 
@@ -33,7 +54,7 @@ pub(crate) struct Bytes<'a>(pub &'a [u8]);
 impl<'a> fmt::Display for Bytes<'a> {
     fn fmt<W: fmt::Write>(&self, f: &mut fmt::Formatter<W>) -> fmt::Result {
         for byte in self.0 {
-            write!(f, "{byte:02X}")?;
+            write!(f, "{}", Byte(*byte))?;
         }
         Ok(())
     }
@@ -41,7 +62,9 @@ impl<'a> fmt::Display for Bytes<'a> {
 
 // A refusal: its number after an exclamation mark.
 pub(crate) fn refusal<E: Refusal>(rt: &impl Print, refusal: E) -> io::Result<()> {
-    print!(rt; " ! {}", refusal.number())
+    print!(rt; " ")?;
+    print!(rt; "!")?;
+    print!(rt; " {}", refusal.number())
 }
 
 // How many bytes or pixels there are, or why there are none.
@@ -51,7 +74,7 @@ pub(crate) fn count<E: Refusal>(
     unit: &str,
 ) -> io::Result<()> {
     match answer {
-        Ok(count) => print!(rt; " {count} {unit}"),
+        Ok(count) => print!(rt; " {count}{unit}"),
         Err(refusal) => self::refusal(rt, refusal),
     }
 }

@@ -1,5 +1,6 @@
 // The cases on registers, SCL times and addresses.
 use crate::print;
+use crate::print::Byte;
 use hub::Hub;
 use registers::power_up::PowerUp;
 use registers::{PageAccess, RegisterFile, power_up, scl};
@@ -31,10 +32,11 @@ struct Shown(PortDevice);
 impl fmt::Display for Shown {
     fn fmt<W: fmt::Write>(&self, f: &mut fmt::Formatter<W>) -> fmt::Result {
         let port = self.0.port;
-        match self.0.remote {
-            Remote::Serializer { address } => write!(f, "{port}:s{address:02X}"),
-            Remote::Target { address, .. } => write!(f, "{port}:{address:02X}"),
-        }
+        let (sign, address) = match self.0.remote {
+            Remote::Serializer { address } => ("s", address),
+            Remote::Target { address, .. } => ("", address),
+        };
+        write!(f, "{port}:{sign}{}", Byte(address))
     }
 }
 
@@ -72,7 +74,7 @@ fn print_read(
 // What the register at `offset` reads after FF was written to it.
 fn print_after_ff(rt: &impl Print, offset: u8) -> io::Result<()> {
     let read = hub::read(write(start(), offset, 0xFF), offset);
-    println!(rt; "register {offset:02X} after FF: {read:02X}")
+    println!(rt; "register {} after FF: {}", Byte(offset), Byte(read))
 }
 
 fn print_scl_times(rt: &impl Print, file: RegisterFile) -> io::Result<()> {
@@ -81,7 +83,11 @@ fn print_scl_times(rt: &impl Print, file: RegisterFile) -> io::Result<()> {
 
 // The SCL times after `high` was written to SCL_HIGH_TIME and `low` to SCL_LOW_TIME.
 fn print_scl_setting(rt: &impl Print, high: u8, low: u8) -> io::Result<()> {
-    print!(rt; "SCL high and low time of {high:02X} and {low:02X}:")?;
+    print!(rt;
+        "SCL high and low time of {} and {}:",
+        Byte(high),
+        Byte(low)
+    )?;
     let written = registers::write(registers::reset(), PageAccess::Selection, 0x0A, high);
     print_scl_times(
         rt,

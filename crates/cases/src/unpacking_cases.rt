@@ -6,16 +6,23 @@ use crate::print;
 use crate::print::Bytes;
 use std::io;
 
+fn print_bits(rt: &impl Print, bits: u8) -> io::Result<()> {
+    print!(rt; " as")?;
+    print!(rt; " {bits} bits")
+}
+
 // Unpacks a few bytes into a slice of six pixels, and prints all six.
 fn print_unpacked(rt: &impl Print, bits: u8, payload: &[u8]) -> io::Result<()> {
-    print!(rt; "unpacking {} as {bits} bits:", Bytes(payload))?;
+    print!(rt; "unpacking {}", Bytes(payload))?;
+    print_bits(rt, bits)?;
+    print!(rt; ":")?;
     let mut pixels = [0xFFFFu16; 6];
     let answer = unpacking::unpack_pixels(bits, payload, &mut pixels);
-    print::count(rt, answer, "pixels")?;
+    print::count(rt, answer, " pixels")?;
     if answer.is_ok() {
         print!(rt; ", with the rest of 6:")?;
         for pixel in &pixels {
-            print!(rt; " {pixel:04X}")?;
+            print!(rt; " {}", Bytes(&pixel.to_be_bytes()))?;
         }
     }
     println!(rt; "")
@@ -25,15 +32,18 @@ fn print_unpacked(rt: &impl Print, bits: u8, payload: &[u8]) -> io::Result<()> {
 fn print_count(rt: &impl Print, bits: u8, length: usize, room: usize) -> io::Result<()>
     requires { (length ≤ 6147) × (room ≤ 4096) }
 {
-    print!(rt; "unpacking {length} bytes as {bits} bits")?;
+    print!(rt; "unpacking")?;
+    print!(rt; " {length} bytes")?;
+    print_bits(rt, bits)?;
     if room < 4096 {
-        print!(rt; " into {room}")?;
+        print!(rt; " into")?;
+        print!(rt; " {room}")?;
     }
     print!(rt; ":")?;
     let zeros = [0u8; 6147];
     let mut pixels = [0u16; 4096];
     let answer = unpacking::unpack_pixels(bits, &zeros[0..length], &mut pixels[0..room]);
-    print::count(rt, answer, "pixels")?;
+    print::count(rt, answer, " pixels")?;
     println!(rt; "")
 }
 

@@ -7,6 +7,7 @@ use endstate::lines::Lines;
 use endstate::{EndState, addresses, channels};
 use formats::Format;
 use page::Pen;
+use page::number::Hex;
 use registers::bits;
 use std::io;
 use std::io::Write;
@@ -110,7 +111,8 @@ fn all_addresses(
                 begin(pen, count, wanted)?;
                 write!(
                     pen,
-                    "Address {address:02X} reaches {}",
+                    "Address {} reaches {}",
+                    Hex(address),
                     NamedPorts(clash.ports)
                 )?;
                 words::named(pen, Kind::SameAddress)?;

@@ -3,10 +3,11 @@ use clashes::addresses as reached;
 use endstate::EndState;
 use origins::NumberedWrite;
 use page::Pen;
+use page::number::Hex;
 use std::io;
 use std::io::Write;
 use words::kinds::Kind;
-use words::{NamedPorts, Source};
+use words::{NamedPorts, Numbered, Place, Source};
 
 // So many odd values are explained.
 const MOST_VALUES: u64 = 10;
@@ -53,23 +54,20 @@ pub fn named(pen: &mut Pen, kind: Kind, count: u64) -> io::Result<()> {
 // Their numbers follow.
 pub fn begin(pen: &mut Pen, source: Source, kind: Kind, count: u64) -> io::Result<()> {
     named(pen, kind, count)?;
-    if count == 1 {
-        write!(pen, "    {source} ")
-    } else {
-        write!(pen, "    {source}s ")
-    }
+    let several = count != 1;
+    write!(pen, "    {}", Numbered { source, several })
 }
 
 fn odd_value(pen: &mut Pen, source: Source, number: u64, value: u8) -> io::Result<()> {
-    write!(pen, "    {source} {number}: 0x{value:02X} means ")?;
+    write!(pen, "    {}: 0x{}", Place { source, number }, Hex(value))?;
     if value < 2 {
-        write!(pen, "off")?;
+        write!(pen, " means off")?;
     } else {
-        write!(pen, "address {:02X}", value / 2)?;
+        write!(pen, " means address {}", Hex(value / 2))?;
     }
     if value <= 0x7F {
         let alias = 2 * value;
-        write!(pen, "; for address {value:02X} write 0x{alias:02X}")?;
+        write!(pen, "; for address {} write 0x{}", Hex(value), Hex(alias))?;
     }
     writeln!(pen)
 }

@@ -8,6 +8,7 @@ use ordering::ticks;
 use ordering::ticks::Ticks;
 use origins::NumberedWrite;
 use page::Pen;
+use page::number::Hex;
 use registers::map;
 use std::io;
 use std::io::Write;
@@ -37,12 +38,9 @@ pub fn selected_again(
         return Ok(());
     }
     number(pen, before)?;
-    let source = file.source;
-    let place = Capital(source);
-    write!(
-        pen,
-        "{place} {again} selects port {port} again, as {source} {first} did"
-    )?;
+    let earlier = file.place(first);
+    let place = Capital(file.place(again));
+    write!(pen, "{place} selects port {port} again, as {earlier} did")?;
     words::named(pen, Kind::PortTwice)?;
     typed::line(pen, file, first)?;
     typed::line(pen, file, again)
@@ -59,11 +57,8 @@ pub fn selected_too(
     if MOST_PRINTED < count {
         return Ok(());
     }
-    let source = file.source;
-    write!(
-        pen,
-        "  It selects port {port} again too, as {source} {first} did"
-    )?;
+    let earlier = file.place(first);
+    write!(pen, "  It selects port {port} again too, as {earlier} did")?;
     words::named(pen, Kind::PortTwice)?;
     typed::line(pen, file, first)
 }
@@ -108,31 +103,36 @@ pub fn no_port(
         return Ok(());
     }
     number(pen, before)?;
-    let place = Capital(file.source);
     let NumberedWrite { number, offset, .. } = write;
+    let place = Capital(file.place(number));
     write!(
         pen,
-        "{place} {number} writes register {offset:02X} while no port is selected"
+        "{place} writes register {} while no port is selected",
+        Hex(offset)
     )?;
     words::named(pen, Kind::NoPort)?;
     typed::line(pen, file, number)
 }
 
 // What selects the port: nothing, or a line that sets none of its registers.
-fn selection(pen: &mut Pen, source: Source, port: u8, tick: Option<u64>) -> io::Result<()> {
+fn selection(pen: &mut Pen, file: File<'_>, port: u8, tick: Option<u64>) -> io::Result<()> {
     match tick {
         None => {
-            let value = 16 * (port % 4) + ports::mask_of_port(port) % 16;
+            let nothing = match file.source {
+                Source::Script => "  No line",
+                Source::Trace => "  No record",
+            };
+            let value = Hex(16 * (port % 4) + ports::mask_of_port(port) % 16);
             writeln!(
                 pen,
-                "  No {source} selects port {port}; WriteI2C(0x4C,0x{value:02X}) would."
+                "{nothing} selects port {port}; WriteI2C(0x4C,0x{value}) would."
             )
         }
         Some(line) => {
-            let place = Capital(source);
+            let place = Capital(file.place(line));
             writeln!(
                 pen,
-                "  {place} {line} selects port {port}, but none of its registers is set."
+                "  {place} selects port {port}, but none of its registers is set."
             )
         }
     }
@@ -154,10 +154,13 @@ fn unset_port(
     words::named(pen, Kind::NotSetUp)?;
     let register = map::FWD_CTL1 as u8;
     typed::line(pen, file, origins::shared_origin(end.state, register))?;
-    selection(pen, file.source, port, tick)?;
+    selection(pen, file, port, tick)?;
     let bit = 4 + port % 4;
-    write!(pen, "  If no camera is there, it need not be forwarded: ")?;
-    writeln!(pen, "bit {bit} of register {register:02X}.")
+    writeln!(
+        pen,
+        "  If no camera is there, it need not be forwarded: bit {bit} of register {}.",
+        Hex(register)
+    )
 }
 
 // The ports that are forwarded and were not set up.

@@ -3,7 +3,10 @@ use console::opened::Opened;
 use page::{Pen, shown};
 use std::io;
 use std::io::Write;
-use words::Source;
+use words::{Place, Source};
+
+// The column that a line's number ends before.
+const NUMBER_END: u64 = 6;
 
 // The file that is told about, open; where in it to begin, and whether it is a trace.
 #[derive(Clone, Copy)]
@@ -11,6 +14,16 @@ pub struct File<'a> {
     pub opened: &'a Opened,
     pub start: u64,
     pub source: Source,
+}
+
+impl File<'_> {
+    // The line with that number, or the record.
+    pub(crate) fn place(self, number: u64) -> Place {
+        Place {
+            source: self.source,
+            number,
+        }
+    }
 }
 
 // Writes a byte of the line, after the one before it, if any; blanks at its start are left out.
@@ -84,7 +97,8 @@ pub(crate) fn line(pen: &mut Pen, file: File<'_>, number: u64) -> io::Result<()>
     if file.source == Source::Trace {
         return writeln!(pen, "    record {number}");
     }
-    write!(pen, "{number:6}  ")?;
+    pen.number_before(number, NUMBER_END)?;
+    write!(pen, "  ")?;
     let place = file.opened.place();
     let _ = file.opened.go_to(file.start);
     find_and_write(pen, file.opened, number)?;

@@ -1,5 +1,5 @@
 // The addresses that somebody hears: who hears a write, who answers a read, and the lines that make it so.
-use crate::fields::LineList;
+use crate::fields::{LineList, QuotedHex};
 use answers::RecordAnswer;
 use endstate::{EndState, addresses};
 use page::Pen;
@@ -19,7 +19,7 @@ fn question_answer(pen: &mut Pen, answered: RecordAnswer) -> io::Result<()> {
 }
 
 fn one(pen: &mut Pen, end: &EndState, address: u8) -> io::Result<()> {
-    write!(pen, "{{\"address\":\"{address:02X}\",\"write\":")?;
+    write!(pen, "{{\"address\":{},\"write\":", QuotedHex(address))?;
     let answer = translation::who_hears_write(end.hub, address);
     question_answer(pen, RecordAnswer::WriteQuestion { address, answer })?;
     write!(pen, ",\"read\":")?;

@@ -1,4 +1,5 @@
 // The findings in the state at the end.
+use crate::fields::QuotedHex;
 use crate::findings;
 use crate::findings::Finding;
 use crate::grades::FindingGrade;
@@ -34,13 +35,10 @@ fn channel(
     };
     findings::begin(pen, count, finding)?;
     let name = match format {
-        Format::Raw10 => "raw10",
-        Format::Raw12 => "raw12",
+        Format::Raw10 => ",\"format\":\"raw10\"}",
+        Format::Raw12 => ",\"format\":\"raw12\"}",
     };
-    write!(
-        pen,
-        ",\"output\":{output},\"channel\":{channel},\"format\":\"{name}\"}}"
-    )
+    write!(pen, ",\"output\":{output},\"channel\":{channel}{name}")
 }
 
 pub fn same_channel(pen: &mut Pen, count: &mut u64, end: &EndState) -> io::Result<()> {
@@ -70,7 +68,7 @@ pub fn same_address(pen: &mut Pen, count: &mut u64, end: &EndState) -> io::Resul
                 ports: clash.ports,
             };
             findings::begin(pen, count, finding)?;
-            write!(pen, ",\"address\":\"{address:02X}\"}}")?;
+            write!(pen, ",\"address\":{}}}", QuotedHex(address))?;
         }
     }
     Ok(())

@@ -1,5 +1,6 @@
-// Values as JSON has them: what may be null, and lists of lines and of ports.
+// Values as JSON has them: what may be null, bytes, and lists of lines and of ports.
 use endstate::lines::Lines;
+use page::number::Hex;
 use registers::bits;
 use std::fmt;
 
@@ -13,6 +14,16 @@ impl fmt::Display for OrNull {
             Some(number) => write!(f, "{number}"),
             None => write!(f, "null"),
         }
+    }
+}
+
+// A byte as two hex digits in quotes.
+#[derive(Clone, Copy)]
+pub(crate) struct QuotedHex(pub u8);
+
+impl fmt::Display for QuotedHex {
+    fn fmt<W: fmt::Write>(&self, f: &mut fmt::Formatter<W>) -> fmt::Result {
+        write!(f, "\"{}\"", Hex(self.0))
     }
 }
 

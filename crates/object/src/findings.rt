@@ -1,5 +1,5 @@
 // A finding: its kind, its grade, its lines and its ports, and what it is about.
-use crate::fields::{LineList, PortList};
+use crate::fields::{LineList, PortList, QuotedHex};
 use crate::grades;
 use crate::grades::FindingGrade;
 use endstate::lines;
@@ -31,10 +31,9 @@ pub(crate) fn begin(pen: &mut Pen, count: &mut u64, finding: Finding) -> io::Res
         lines,
         ports,
     } = finding;
-    write!(pen, "{{\"kind\":\"{kind}\",\"grade\":\"{grade}\"")?;
     write!(
         pen,
-        ",\"lines\":{},\"ports\":{}",
+        "{{\"kind\":\"{kind}\",\"grade\":\"{grade}\",\"lines\":{},\"ports\":{}",
         LineList(lines),
         PortList(ports)
     )
@@ -59,5 +58,5 @@ pub fn at_write(
         ports,
     };
     begin(pen, count, finding)?;
-    write!(pen, ",\"register\":\"{:02X}\"}}", write.offset)
+    write!(pen, ",\"register\":{}}}", QuotedHex(write.offset))
 }

@@ -1,6 +1,7 @@
 // The object that show and check print for other programs, one line of JSON, piece by piece; docs/SHOW.md describes it.
 #![tactic(auto)]
 
+use crate::fields::QuotedHex;
 use page::Pen;
 use registers::power_up::PowerUp;
 use std::io;
@@ -22,10 +23,10 @@ pub fn begin(
     any_order: bool,
 ) -> io::Result<()> {
     let started = match start {
-        PowerUp::Boot => "board",
-        PowerUp::Reset => "sheet",
+        PowerUp::Boot => ",\"start\":\"board\"",
+        PowerUp::Reset => ",\"start\":\"sheet\"",
     };
-    write!(pen, "{{\"hub\":\"{hub:02X}\",\"start\":\"{started}\"")?;
+    write!(pen, "{{\"hub\":{}{started}", QuotedHex(hub))?;
     write!(pen, ",\"writes\":{writes},\"any_order\":{any_order}")
 }
 

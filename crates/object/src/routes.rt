@@ -21,7 +21,7 @@ fn channel(end: &EndState, port: u8, format: Format) -> u8 {
     forwarding::data_identifier(end.hub, port, format) / 64
 }
 
-// The lines that set a port's route.
+// The lines that set a port's route, its last field.
 fn route_lines(pen: &mut Pen, end: &EndState, port: u8) -> io::Result<()> {
     let lines = channels::port_lines(end.state, port);
     let forwarding = fields::line(lines.forwarding);
@@ -29,7 +29,7 @@ fn route_lines(pen: &mut Pen, end: &EndState, port: u8) -> io::Result<()> {
     let raw12 = fields::line(lines.raw12);
     write!(
         pen,
-        ",\"lines\":{{\"forwarding\":{forwarding},\"raw10\":{raw10},\"raw12\":{raw12}}}"
+        ",\"lines\":{{\"forwarding\":{forwarding},\"raw10\":{raw10},\"raw12\":{raw12}}}}}"
     )
 }
 
@@ -41,8 +41,7 @@ fn port(pen: &mut Pen, end: &EndState, port: u8) -> io::Result<()> {
         pen,
         "{{\"port\":{port},\"output\":{output},\"raw10\":{raw10},\"raw12\":{raw12}"
     )?;
-    route_lines(pen, end, port)?;
-    write!(pen, "}}")
+    route_lines(pen, end, port)
 }
 
 pub fn all(pen: &mut Pen, end: &EndState) -> io::Result<()> {

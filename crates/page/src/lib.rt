@@ -1,12 +1,16 @@
 // Standard output with columns. What comes of a write is the system's to say, so contracts promise nothing of it.
 #![tactic(auto)]
 
-ghost use Rattle.std.specs.Prelude.{◌≡◌};
+ghost use Rattle.std.specs.Prelude.{◌≡◌, ◌≤◌, length};
 
 use std::io;
 use std::io::{Stdout, Write};
 
+pub mod number;
 pub mod shown;
+
+// The most spaces that are written at once.
+const LINE: usize = 80;
 
 // Where the page is written: standard output; and how many bytes stand on its line.
 #[derive(Clone, Copy)]
@@ -23,16 +27,31 @@ impl Pen {
         Pen { out, column: 0 }
     }
 
+    // Spaces, at most a line of them, in one piece.
+    fn spaces(&mut self, count: u64) -> io::Result<()> {
+        let line = [b' '; LINE];
+        self.write_all(&line[..count.min(LINE as u64) as usize])
+    }
+
     // Goes on in a column, after a space at least.
     pub fn to_column(&mut self, column: u64) -> io::Result<()> {
-        let gap = column.saturating_sub(self.column).max(1) as usize;
-        write!(self, "{:gap$}", "")
+        self.spaces(column.saturating_sub(self.column).max(1))
+    }
+}
+
+// How much of the bytes is written at once: all up to the end of a line, which is a piece of its own.
+fn piece(bytes: &[u8]) -> &[u8]
+    ensures { length result.now ≤ length bytes.now }
+{
+    match bytes.iter().position(|byte| *byte == b'\n') {
+        None => bytes,
+        Some(end) => &bytes[..end.max(1)],
     }
 }
 
 impl Write for Pen {
     fn write(&mut self, bytes: &[u8]) -> io::Result<usize> {
-        let count = self.out.write(bytes)?;
+        let count = self.out.write(piece(bytes))?;
         for byte in &bytes[..count] {
             self.column = if *byte == b'\n' {
                 0

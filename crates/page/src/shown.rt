@@ -1,5 +1,6 @@
 // Text of a file or of its name on the page: control characters by their numbers, so that none of them acts.
 use crate::Pen;
+use buffers::text::lowercase_digit;
 use std::io;
 use std::io::Write;
 
@@ -13,7 +14,13 @@ pub fn byte(pen: &mut Pen, before: Option<u8>, byte: u8) -> io::Result<()> {
     if byte == b'\t' {
         write!(pen, " ")
     } else if is_control(before, byte) {
-        write!(pen, "\\x{byte:02x}")
+        let number = [
+            b'\\',
+            b'x',
+            lowercase_digit(byte / 16),
+            lowercase_digit(byte),
+        ];
+        pen.write_all(&number)
     } else {
         pen.write_all(&[byte])
     }

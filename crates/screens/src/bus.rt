@@ -4,11 +4,12 @@ use clashes::addresses as reached;
 use endstate::{EndState, addresses, wrong};
 use origins::RegistersWithOrigins;
 use page::Pen;
+use page::number::Hex;
 use registers::map;
 use std::io::Write;
 use std::{fmt, io};
 use translation::{Addressed, Devices, PortDevice, ReadRefusal, Remote};
-use words::{NamedPorts, Source, ThreeLines};
+use words::{NamedPorts, Place, Source, ThreeLines};
 
 const LINES_COLUMN: u64 = 33;
 
@@ -29,8 +30,10 @@ impl fmt::Display for Named {
     fn fmt<W: fmt::Write>(&self, f: &mut fmt::Formatter<W>) -> fmt::Result {
         let port = self.0.port;
         match self.0.remote {
-            Remote::Serializer { address } => write!(f, "port {port}, serializer {address:02X}"),
-            Remote::Target { address, .. } => write!(f, "port {port}, camera {address:02X}"),
+            Remote::Serializer { address } => {
+                write!(f, "port {port}, serializer {}", Hex(address))
+            }
+            Remote::Target { address, .. } => write!(f, "port {port}, camera {}", Hex(address)),
         }
     }
 }
@@ -98,22 +101,27 @@ fn device_rows(
 // The address at the start of its row, marked where it reaches several ports and that looks wrong.
 fn address_named(pen: &mut Pen, end: &EndState, address: u8) -> io::Result<()> {
     let is_marked = wrong::is_wrong(addresses::same_address(end, address));
-    write!(pen, "{}{address:02X}  ", marks::mark(is_marked))
+    write!(pen, "{}{}  ", marks::mark(is_marked), Hex(address))
 }
 
 // An address that nobody hears, and that a device heard until its alias got another.
 fn lost_row(pen: &mut Pen, source: Source, address: u8, lost: LostAlias) -> io::Result<()> {
     write!(
         pen,
-        "{}{address:02X}  nobody any more",
-        marks::mark(lost.is_wrong)
+        "{}{}  nobody any more",
+        marks::mark(lost.is_wrong),
+        Hex(address)
     )?;
     pen.to_column(LINES_COLUMN)?;
-    writeln!(
-        pen,
-        "{source} {}, replaced by {source} {}",
-        lost.set, lost.changed
-    )
+    let set = Place {
+        source,
+        number: lost.set,
+    };
+    let changed = Place {
+        source,
+        number: lost.changed,
+    };
+    writeln!(pen, "{set}, replaced by {changed}")
 }
 
 fn row(

@@ -4,6 +4,7 @@ use endstate::findings::{Clash, Grade};
 use endstate::{EndState, addresses, channels};
 use formats::Format;
 use page::Pen;
+use page::number::Hex;
 use std::io;
 use std::io::Write;
 use words::{NamedPorts, OutputChannel, Ports};
@@ -61,7 +62,8 @@ fn all_addresses(pen: &mut Pen, count: &mut u64, end: &EndState) -> io::Result<(
             begin(pen, count, clash)?;
             write!(
                 pen,
-                "address {address:02X} reaches {}",
+                "address {} reaches {}",
+                Hex(address),
                 NamedPorts(clash.ports)
             )?;
             line_end(pen, clash)?;

@@ -3,7 +3,7 @@ use crate::title::WriteCounts;
 use page::Pen;
 use std::io;
 use std::io::Write;
-use words::Source;
+use words::{Numbered, Source};
 
 // Whether the blocks may be run in any order, where there are several.
 pub fn order(
@@ -13,19 +13,28 @@ pub fn order(
     counts: WriteCounts,
 ) -> io::Result<()> {
     if !any_order {
+        let lines = Numbered {
+            source,
+            several: true,
+        };
         return writeln!(
             pen,
-            "\nThe order of the {source}s may matter; check tells why."
+            "\nThe order of the {lines}may matter; check tells why."
         );
     }
     if counts.selections < 2 {
         return Ok(());
     }
-    write!(pen, "\nThe setup blocks may be run in any order")?;
     if counts.not_followed == 0 {
-        writeln!(pen, ": they end alike.")
+        writeln!(
+            pen,
+            "\nThe setup blocks may be run in any order: they end alike."
+        )
     } else {
-        writeln!(pen, ", in what this model follows.")
+        writeln!(
+            pen,
+            "\nThe setup blocks may be run in any order, in what this model follows."
+        )
     }
 }
 
@@ -35,11 +44,14 @@ pub fn limits(pen: &mut Pen, source: Source, not_followed: u64) -> io::Result<()
     writeln!(pen, "  whether an output is switched on (register 33)")?;
     writeln!(pen, "  which pictures a camera sends, RAW10 or RAW12")?;
     writeln!(pen, "  which camera is plugged into which port")?;
-    match not_followed {
-        0 => Ok(()),
-        1 => write!(pen, "  what it does not follow: {source} "),
-        _ => write!(pen, "  what it does not follow: {source}s "),
+    if not_followed == 0 {
+        return Ok(());
     }
+    let lines = Numbered {
+        source,
+        several: not_followed != 1,
+    };
+    write!(pen, "  what it does not follow: {lines}")
 }
 
 // Nothing looks wrong. A script that sets nothing does not look right either.

@@ -7,7 +7,7 @@ use hub::forwarding;
 use page::Pen;
 use std::io;
 use std::io::Write;
-use words::Source;
+use words::{Place, Source};
 
 const RAW10_COLUMN: u64 = 33;
 
@@ -18,7 +18,8 @@ fn set_by(pen: &mut Pen, source: Source, line: u64) -> io::Result<()> {
     if line == 0 {
         write!(pen, " *")
     } else {
-        write!(pen, " ({source} {line})")
+        let number = line;
+        write!(pen, " ({})", Place { source, number })
     }
 }
 
@@ -84,7 +85,11 @@ pub fn table(pen: &mut Pen, source: Source, end: &EndState) -> io::Result<()> {
         is_starred = is_starred || has_star(end, port);
     }
     if is_starred {
-        writeln!(pen, "  * as the chip starts: no {source} sets it")?;
+        let star = match source {
+            Source::Script => "  * as the chip starts: no line sets it",
+            Source::Trace => "  * as the chip starts: no record sets it",
+        };
+        writeln!(pen, "{star}")?;
     }
     Ok(())
 }

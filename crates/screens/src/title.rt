@@ -1,4 +1,5 @@
 // What was run: the file and the hub, and how many writes there were.
+use page::number::Hex;
 use page::{Pen, shown};
 use registers::power_up::PowerUp;
 use std::io;
@@ -30,10 +31,10 @@ pub fn file_on_hub(pen: &mut Pen, path: &[u8], address: u8, start: PowerUp) -> i
         shown::bytes(pen, path)?;
     }
     let started = match start {
-        PowerUp::Boot => "board",
-        PowerUp::Reset => "data sheet",
+        PowerUp::Boot => ", as the board starts",
+        PowerUp::Reset => ", as the data sheet starts",
     };
-    writeln!(pen, " on hub {address:02X}, as the {started} starts")
+    writeln!(pen, " on hub {}{started}", Hex(address))
 }
 
 // How many writes there were, and how many of them did nothing.

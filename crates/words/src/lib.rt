@@ -16,31 +16,58 @@ pub mod numbers;
 // The column of a finding's name.
 const NAME_COLUMN: u64 = 61;
 
-// What the writes are read from; as text, what has their numbers: a line, or a record where it is a trace's.
+// What the writes are read from. What has their numbers is a line, or a record where it is a trace.
 #[derive(Clone, Copy, PartialEq, Eq)]
 pub enum Source {
     Script,
     Trace,
 }
 
-impl fmt::Display for Source {
+// The word before the number of one of them, or before those of several.
+#[derive(Clone, Copy)]
+pub struct Numbered {
+    pub source: Source,
+    pub several: bool,
+}
+
+impl fmt::Display for Numbered {
     fn fmt<W: fmt::Write>(&self, f: &mut fmt::Formatter<W>) -> fmt::Result {
-        match self {
-            Source::Script => write!(f, "line"),
-            Source::Trace => write!(f, "record"),
+        f.write_str(match (self.source, self.several) {
+            (Source::Script, false) => "line ",
+            (Source::Script, true) => "lines ",
+            (Source::Trace, false) => "record ",
+            (Source::Trace, true) => "records ",
+        })
+    }
+}
+
+// One of them, with its number.
+#[derive(Clone, Copy)]
+pub struct Place {
+    pub source: Source,
+    pub number: u64,
+}
+
+impl fmt::Display for Place {
+    fn fmt<W: fmt::Write>(&self, f: &mut fmt::Formatter<W>) -> fmt::Result {
+        let number = self.number;
+        match self.source {
+            Source::Script => write!(f, "line {number}"),
+            Source::Trace => write!(f, "record {number}"),
         }
     }
 }
 
-// The same word at the start of a sentence.
+// The same at the start of a sentence.
 #[derive(Clone, Copy)]
-pub struct Capital(pub Source);
+pub struct Capital(pub Place);
 
 impl fmt::Display for Capital {
     fn fmt<W: fmt::Write>(&self, f: &mut fmt::Formatter<W>) -> fmt::Result {
-        match self.0 {
-            Source::Script => write!(f, "Line"),
-            Source::Trace => write!(f, "Record"),
+        let number = self.0.number;
+        match self.0.source {
+            Source::Script => write!(f, "Line {number}"),
+            Source::Trace => write!(f, "Record {number}"),
         }
     }
 }
@@ -55,11 +82,15 @@ pub struct ThreeLines {
 impl fmt::Display for ThreeLines {
     fn fmt<W: fmt::Write>(&self, f: &mut fmt::Formatter<W>) -> fmt::Result {
         let source = self.source;
+        let several = Numbered {
+            source,
+            several: true,
+        };
         match self.lines.numbers {
             [0, ..] => Ok(()),
-            [first, 0, ..] => write!(f, "{source} {first}"),
-            [first, second, 0, ..] => write!(f, "{source}s {first}, {second}"),
-            [first, second, third, ..] => write!(f, "{source}s {first}, {second}, {third}"),
+            [number, 0, ..] => write!(f, "{}", Place { source, number }),
+            [first, second, 0, ..] => write!(f, "{several}{first}, {second}"),
+            [first, second, third, ..] => write!(f, "{several}{first}, {second}, {third}"),
         }
     }
 }
@@ -92,8 +123,12 @@ pub struct NamedPorts(pub u8);
 
 impl fmt::Display for NamedPorts {
     fn fmt<W: fmt::Write>(&self, f: &mut fmt::Formatter<W>) -> fmt::Result {
-        let several = if ports::are_several(self.0) { "s" } else { "" };
-        write!(f, "port{several} {}", Ports(self.0))
+        let word = if ports::are_several(self.0) {
+            "ports "
+        } else {
+            "port "
+        };
+        write!(f, "{word}{}", Ports(self.0))
     }
 }
 
@@ -108,12 +143,12 @@ pub struct OutputChannel {
 impl fmt::Display for OutputChannel {
     fn fmt<W: fmt::Write>(&self, f: &mut fmt::Formatter<W>) -> fmt::Result {
         let format = match self.format {
-            Format::Raw10 => "RAW10",
-            Format::Raw12 => "RAW12",
+            Format::Raw10 => " (RAW10)",
+            Format::Raw12 => " (RAW12)",
         };
         write!(
             f,
-            "output {}, channel {} ({format})",
+            "output {}, channel {}{format}",
             self.output, self.channel
         )
     }
