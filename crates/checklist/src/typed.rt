@@ -89,7 +89,8 @@ fn find_and_write(pen: &mut Pen, from: &Opened, number: u64) -> io::Result<()> {
     Ok(())
 }
 
-// A line of the script with its number, as it is typed; of a trace the number of the record. 0 is none.
+// A line of the script with its number, as it is typed; of a trace the number of the record. 0 is none. (The place of
+// the file stays where a line cannot be written, too: whoever goes through the file goes on.)
 pub(crate) fn line(pen: &mut Pen, file: File<'_>, number: u64) -> io::Result<()> {
     if number == 0 {
         return Ok(());
@@ -101,9 +102,10 @@ pub(crate) fn line(pen: &mut Pen, file: File<'_>, number: u64) -> io::Result<()>
     write!(pen, "  ")?;
     let place = file.opened.place();
     let _ = file.opened.go_to(file.start);
-    find_and_write(pen, file.opened, number)?;
+    let written = find_and_write(pen, file.opened, number);
     if let Ok(place) = place {
         let _ = file.opened.go_to(place);
     }
+    written?;
     writeln!(pen)
 }
