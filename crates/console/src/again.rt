@@ -23,11 +23,12 @@ pub struct Again {
     pub start: u64,
 }
 
-// The place in a text whose first line is such as pos: 12.
+// The place in a text whose first line is such as pos: 12. One that is no such number is taken as 0: in the memory of a
+// process it can be negative.
 fn place_in(text: &[u8]) -> Option<u64> {
     let text = std::str::from_utf8(text).ok()?;
     let line = text.lines().next()?;
-    line.strip_prefix("pos:")?.trim().parse().ok()
+    Some(line.strip_prefix("pos:")?.trim().parse().unwrap_or(0))
 }
 
 // The place of standard input's next byte.
