@@ -7,7 +7,7 @@ use page::number::Hex;
 use std::io;
 use std::io::Write;
 use words::kinds::Kind;
-use words::{NamedPorts, Numbered, Place, Source};
+use words::{NamedPorts, Place, PlaceWord, Source};
 
 // So many odd values are explained.
 const MOST_VALUES: u64 = 10;
@@ -55,7 +55,7 @@ pub fn named(pen: &mut Pen, kind: Kind, count: u64) -> io::Result<()> {
 pub fn begin(pen: &mut Pen, source: Source, kind: Kind, count: u64) -> io::Result<()> {
     named(pen, kind, count)?;
     let several = count != 1;
-    write!(pen, "    {}", Numbered { source, several })
+    write!(pen, "    {}", PlaceWord { source, several })
 }
 
 fn odd_value(pen: &mut Pen, source: Source, number: u64, value: u8) -> io::Result<()> {

@@ -52,7 +52,7 @@ pub fn refuse(rt: &impl Print, command: Command, address: u8, number: u8) -> Not
     }
 }
 
-// The same, of a refusal that has a number.
-pub fn refused<E: Refusal>(rt: &impl Print, command: Command, address: u8, refused: E) -> NotDone {
-    refuse(rt, command, address, refused.number())
+// The same, for a reason that has a number.
+pub fn refused<E: Refusal>(rt: &impl Print, command: Command, address: u8, reason: E) -> NotDone {
+    refuse(rt, command, address, reason.number())
 }

@@ -119,17 +119,17 @@ pub(crate) fn output_unwritten(command: Command, error: Error) -> NotDone {
     unwritten(command, b"cannot write the output", error)
 }
 
-// Prints the number of what is refused; says so where it cannot.
-pub fn refused<E: Refusal>(rt: &impl Print, command: Command, refused: E) -> Result<(), NotDone> {
-    refusal(rt, refused.number().into()).map_err(|error| output_unwritten(command, error))
+// Prints the number of the reason; says so where it cannot.
+pub fn refused<E: Refusal>(rt: &impl Print, command: Command, reason: E) -> Result<(), NotDone> {
+    refusal(rt, reason.number().into()).map_err(|error| output_unwritten(command, error))
 }
 
-// Prints the number of what is refused after that of its line; says so where it cannot.
+// Prints the number of the reason after that of its line; says so where it cannot.
 pub fn refused_at<E: Refusal>(
     rt: &impl Print,
     command: Command,
     line: u64,
-    refused: E,
+    reason: E,
 ) -> Result<(), NotDone> {
-    refusal_at(rt, line, refused.number().into()).map_err(|error| output_unwritten(command, error))
+    refusal_at(rt, line, reason.number().into()).map_err(|error| output_unwritten(command, error))
 }

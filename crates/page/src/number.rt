@@ -1,4 +1,4 @@
-// Numbers on the page, each in one piece: a byte as hex digits, and a number in a column.
+// Numbers on the page: a byte as hex digits, in one piece, and a number in a column.
 use crate::Pen;
 use buffers::text::hex_digit;
 use std::fmt;

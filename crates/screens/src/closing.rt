@@ -3,7 +3,7 @@ use crate::title::WriteCounts;
 use page::Pen;
 use std::io;
 use std::io::Write;
-use words::{Numbered, Source};
+use words::{PlaceWord, Source};
 
 // Whether the blocks may be run in any order, where there are several.
 pub fn order(
@@ -13,13 +13,13 @@ pub fn order(
     counts: WriteCounts,
 ) -> io::Result<()> {
     if !any_order {
-        let lines = Numbered {
+        let places = PlaceWord {
             source,
             several: true,
         };
         return writeln!(
             pen,
-            "\nThe order of the {lines}may matter; check tells why."
+            "\nThe order of the {places}may matter; check tells why."
         );
     }
     if counts.selections < 2 {
@@ -47,11 +47,11 @@ pub fn limits(pen: &mut Pen, source: Source, not_followed: u64) -> io::Result<()
     if not_followed == 0 {
         return Ok(());
     }
-    let lines = Numbered {
+    let places = PlaceWord {
         source,
         several: not_followed != 1,
     };
-    write!(pen, "  what it does not follow: {lines}")
+    write!(pen, "  what it does not follow: {places}")
 }
 
 // Nothing looks wrong. A script that sets nothing does not look right either.

@@ -23,14 +23,14 @@ pub enum Source {
     Trace,
 }
 
-// The word before the number of one of them, or before those of several.
+// The word before the number of one of them, or before those of several, with its space.
 #[derive(Clone, Copy)]
-pub struct Numbered {
+pub struct PlaceWord {
     pub source: Source,
     pub several: bool,
 }
 
-impl fmt::Display for Numbered {
+impl fmt::Display for PlaceWord {
     fn fmt<W: fmt::Write>(&self, f: &mut fmt::Formatter<W>) -> fmt::Result {
         f.write_str(match (self.source, self.several) {
             (Source::Script, false) => "line ",
@@ -82,7 +82,7 @@ pub struct ThreeLines {
 impl fmt::Display for ThreeLines {
     fn fmt<W: fmt::Write>(&self, f: &mut fmt::Formatter<W>) -> fmt::Result {
         let source = self.source;
-        let several = Numbered {
+        let several = PlaceWord {
             source,
             several: true,
         };
