@@ -27,10 +27,13 @@ impl Pen {
         Pen { out, column: 0 }
     }
 
-    // Spaces, at most a line of them, in one piece.
+    // Spaces, in pieces of at most a line of them.
     fn spaces(&mut self, count: u64) -> io::Result<()> {
         let line = [b' '; LINE];
-        self.write_all(&line[..count.min(LINE as u64) as usize])
+        for _ in 0..count / LINE as u64 {
+            self.write_all(&line)?;
+        }
+        self.write_all(&line[..(count % LINE as u64) as usize])
     }
 
     // Goes on in a column, after a space at least.
@@ -64,5 +67,23 @@ impl Write for Pen {
 
     fn flush(&mut self) -> io::Result<()> {
         self.out.flush()
+    }
+}
+
+#[cfg(test)]
+mod tests {
+    use super::*;
+
+    // Columns behind, near and far, from the second column on: a space at least, one piece of spaces, and more.
+    #[test]
+    fn goes_to_columns(rt: HostRuntime) -> io::Result<()> {
+        for (column, reached) in [(0, 3), (2, 3), (6, 6), (82, 82), (83, 83), (200, 200)] {
+            let mut pen = Pen::new(rt.stdout());
+            write!(pen, "ab")?;
+            pen.to_column(column)?;
+            assert_eq!(rt; pen.column, reached, "for column {column}");
+            writeln!(pen)?;
+        }
+        Ok(())
     }
 }
