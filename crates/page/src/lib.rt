@@ -74,7 +74,7 @@ impl Write for Pen {
 mod tests {
     use super::*;
 
-    // Columns behind, near and far, from the second column on: a space at least, one piece of spaces, and more.
+    // From column 2 on, columns behind, near and far: a space at least, one piece of spaces, and more.
     #[test]
     fn goes_to_columns(rt: HostRuntime) -> io::Result<()> {
         for (column, reached) in [(0, 3), (2, 3), (6, 6), (82, 82), (83, 83), (200, 200)] {
